@@ -1,0 +1,16 @@
+-- No row is out of range if none was counted. Assumes nothing.
+use borrow.Author.Needs.{needs}
+use mathlib.Core.Path.{sym}
+use mathlib.Core.Bool.{not}
+use denote.Ref.{now}
+use Rattle.guideline.specs.Rows.{sound642}
+use Rattle.guideline.specs.Bytes.{row642, width642}
+use Rattle.tables.specs.Lents.{rows-none}
+use Rattle.tables.proofs.t642.all_in_range.Statement.{statement}
+use Rattle.tables.proofs.t642.all_in_range.Tie as tie
+
+returns : tie.Need-returns
+returns c = sym (rows-none width642 row642 (now (c .before .before .before .args .t)) (λ r. not (sound642 r)) (c .before .tally .ensures))
+
+pub all-in-range-spec : {M : Type 1} → statement M
+all-in-range-spec = tie.close (tie.spec (λ c κs. search needs) returns)

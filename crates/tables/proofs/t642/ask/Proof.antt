@@ -1,0 +1,36 @@
+-- What the tally tells is what the rows answer. Assumes nothing.
+use borrow.Author.Needs.{needs}
+use mathlib.Core.Path.{sym, _∙_, ap}
+use native.Mathlib.Omega.{arith}
+use denote.Ref.{now}
+use Rattle.guideline.specs.Bytes.{row642, width642}
+use Rattle.tables.specs.declared.t642.Found642.the-variants.{One}
+use Rattle.tables.specs.declared.Tally.{Tally}
+use Rattle.tables.specs.Tally.{last-below}
+use Rattle.tables.specs.Tests.{test642}
+use Rattle.tables.specs.Lents.{found642, rows-told, told-none, told-one, told-many}
+use Rattle.tables.proofs.t642.ask.Statement.{statement}
+use Rattle.tables.proofs.t642.ask.Tie as tie
+
+row-requires : tie.Need-row-requires
+row-requires c κs =
+    let e = c .before .tally .ensures in
+    rw (ap (λ (t : Tally). t .last) e) (last-below _ _ (rw (← ap (λ (t : Tally). t .count) e) (rw (c .match .keys2) (omega arith))))
+
+returns : tie.Need-returns
+returns c =
+    let a = c .before .before .before .args in
+    sym (ap found642 (rows-told width642 row642 (now (a .t)) (test642 (a .test)) (c .before .tally .ensures) ∙ told-none _ (c .match .keys1)))
+
+returns-2 : tie.Need-returns-2
+returns-2 c =
+    let a = c .before .before .before .before .args in
+    sym (ap found642 (rows-told width642 row642 (now (a .t)) (test642 (a .test)) (c .before .before .tally .ensures) ∙ told-one _ (c .before .match .keys2)) ∙ ap One (sym (c .row .ensures)))
+
+returns-3 : tie.Need-returns-3
+returns-3 c =
+    let a = c .before .before .before .args in
+    sym (ap found642 (rows-told width642 row642 (now (a .t)) (test642 (a .test)) (c .before .tally .ensures) ∙ told-many _ _ (c .match .rest .0 .1) (c .match .rest .1)))
+
+pub ask-spec : {M : Type 1} → statement M
+ask-spec = tie.close (tie.spec (λ c κs. search needs) row-requires returns returns-2 returns-3)

@@ -1,0 +1,12 @@
+-- Each field is tested against its range. Assumes nothing.
+use borrow.Author.Needs.{needs}
+use Rattle.guideline.specs.Rows.{sound649}
+use Rattle.tables.proofs.t649.in_range.Statement.{statement}
+use Rattle.tables.proofs.t649.in_range.Tie as tie
+
+returns : tie.Need-returns
+unfolding sound649
+returns c = rw (c .both3 .ensures, c .before .both2 .ensures, c .before .before .both .ensures, c .before .before .before .holds4 .ensures, c .before .before .before .before .limits3 .ensures, c .before .before .before .before .before .holds3 .ensures, c .before .before .before .before .before .before .limits2 .ensures, c .before .before .before .before .before .before .before .holds2 .ensures, c .before .before .before .before .before .before .before .before .limits .ensures, c .before .before .before .before .before .before .before .before .before .holds .ensures, c .before .before .before .before .before .before .before .before .before .before .codes-from-1 .ensures)
+
+pub in-range-spec : {M : Type 1} → statement M
+in-range-spec = tie.close (tie.spec (λ c κs. search needs) (λ c κs. search needs) (λ c κs. search needs) (λ c κs. search needs) (λ c κs. search needs) (λ c κs. search needs) (λ c κs. search needs) (λ c κs. search needs) (λ c κs. search needs) (λ c κs. search needs) (λ c κs. search needs) returns)

@@ -1,0 +1,59 @@
+-- What the code asks of a table: each test as the property of a row that it stands for.
+use mathlib.Core.Bool.{Bool, true, not, _&&_}
+use lib.Dec.{eqb}
+use Rattle.guideline.specs.declared.Row640.{Row640}
+use Rattle.guideline.specs.declared.Row641.{Row641}
+use Rattle.guideline.specs.declared.Row642.{Row642}
+use Rattle.guideline.specs.declared.Row643.{Row643}
+use Rattle.guideline.specs.declared.Row649.{Row649}
+use Rattle.guideline.specs.declared.Row730.{Row730}
+use Rattle.guideline.specs.Table.{every}
+use Rattle.guideline.specs.Rows.{sound640, sound641, sound642, sound643, sound649, sound730}
+use Rattle.guideline.specs.Steps.{unit-row, gpk-row, of-gpk, hpk-level, prk-level, base-level, of-basis, of-care, of-reason, of-route, of-category, rule-row}
+use Rattle.tables.specs.declared.t640.Test640.{Test640}
+use Rattle.tables.specs.declared.t640.Test640.the-variants.{Gpk, Unsound as Unsound640}
+use Rattle.tables.specs.declared.t641.Test641.{Test641}
+use Rattle.tables.specs.declared.t641.Test641.the-variants.{HpkLevel, Hpk, PrkLevel, Prk, BaseLevel, Unsound as Unsound641}
+use Rattle.tables.specs.declared.t642.Test642.{Test642}
+use Rattle.tables.specs.declared.t642.Test642.the-variants.{Care, Reason, Route, Unsound as Unsound642}
+use Rattle.tables.specs.declared.t643.Test643.{Test643}
+use Rattle.tables.specs.declared.t643.Test643.the-variants.{Category, Unsound as Unsound643}
+use Rattle.tables.specs.declared.t649.Test649.{Test649}
+use Rattle.tables.specs.declared.t649.Test649.the-variants.{Rule, Unsound as Unsound649}
+use Rattle.tables.specs.declared.t730.Test730.{Test730}
+use Rattle.tables.specs.declared.t730.Test730.the-variants.{Unit as OfUnit, Unsound as Unsound730}
+
+abbrev pub test640 : Test640 → Row640 → Bool
+test640 (Gpk gpk) r = gpk-row gpk r
+test640 Unsound640 r = not (sound640 r)
+
+-- among the rows of a GPK
+abbrev pub test641 : Test641 → Row641 → Bool
+test641 (HpkLevel gpk) r = of-gpk gpk r && hpk-level r
+test641 (Hpk gpk hpk) r = of-gpk gpk r && (hpk-level r && eqb (r .hpkode) hpk)
+test641 (PrkLevel gpk) r = of-gpk gpk r && prk-level r
+test641 (Prk gpk prk) r = of-gpk gpk r && (prk-level r && eqb (r .prkode) prk)
+test641 (BaseLevel gpk) r = of-gpk gpk r && base-level r
+test641 Unsound641 r = not (sound641 r)
+
+-- among the rows of a basis, those of a setting as far as it is settled
+abbrev pub test642 : Test642 → Row642 → Bool
+test642 (Care basis s) r = of-basis basis r && (of-care (s .care) r && every r)
+test642 (Reason basis s) r =
+    of-basis basis r && (of-care (s .care) r && (of-reason (s .reason) (s .icpcto) r && every r))
+test642 (Route basis s) r =
+    of-basis basis r
+    && (of-care (s .care) r && (of-reason (s .reason) (s .icpcto) r && (of-route (s .route) r && every r)))
+test642 Unsound642 r = not (sound642 r)
+
+abbrev pub test643 : Test643 → Row643 → Bool
+test643 (Category category) r = of-category category r && every r
+test643 Unsound643 r = not (sound643 r)
+
+abbrev pub test649 : Test649 → Row649 → Bool
+test649 (Rule rule) r = rule-row rule r
+test649 Unsound649 r = not (sound649 r)
+
+abbrev pub test730 : Test730 → Row730 → Bool
+test730 (OfUnit srtcde code unit) r = unit-row srtcde code unit r
+test730 Unsound730 r = not (sound730 r)

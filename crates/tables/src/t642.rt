@@ -1,0 +1,142 @@
+// Table 642: GPDBAS, GPDZCO, ICPCNR1, ICPCTO, GPKTWG, GPDCAT.
+ghost use mathlib.Core.Path.{_≡_};
+ghost use Prim.Native.Nat.{_/_, _<_};
+ghost use lib.ListN.{length};
+ghost use Rattle.guideline.specs.Bytes.{cell, row642, width642};
+ghost use Rattle.guideline.specs.Rows.{sound642};
+ghost use Rattle.guideline.specs.Table.{some};
+ghost use Rattle.guideline.specs.Steps.{all-rows, of-reason};
+ghost use Rattle.tables.specs.Tally.{tallied};
+ghost use Rattle.tables.specs.Tests.{test642};
+ghost use Rattle.tables.specs.Lents.{rows642, found642};
+use crate::Tally;
+use guideline::Range;
+use guideline::Row642;
+use guideline::Setting;
+
+// How many numbers of 32 bits a row has, and how many bytes.
+pub const WIDTH: usize = 6;
+
+pub const ROW: usize = 24;
+
+// What may be asked of a row.
+pub enum Test642 {
+    Care(u32, Setting),
+    Reason(u32, Setting),
+    Route(u32, Setting),
+    Unsound,
+}
+
+pub enum Found642 {
+    Nothing,
+    One(Row642),
+    Many(usize),
+}
+
+fn row(t: &[u8], row: usize) -> Row642
+    requires { ⌜ row < length (now t) / 24 ⌝ }
+    ensures { λ r. ⌜ r ≡ row642 (cell width642 (now (t .entry)) row) ⌝ }
+{
+    Row642 {
+        gpdbas: crate::cell(t, WIDTH, row, 0),
+        gpdzco: crate::cell(t, WIDTH, row, 1),
+        icpcnr1: crate::cell(t, WIDTH, row, 2),
+        icpcto: crate::cell(t, WIDTH, row, 3),
+        gpktwg: crate::cell(t, WIDTH, row, 4),
+        gpdcat: crate::cell(t, WIDTH, row, 5),
+    }
+}
+
+fn of_reason(r: Row642, s: Setting) -> bool
+    ensures { λ b. ⌜ b ≡ of-reason (s .reason) (s .icpcto) r ⌝ }
+{
+    guideline::both(r.icpcnr1 == s.reason, r.icpcto == s.icpcto)
+}
+
+fn in_range(r: Row642) -> bool
+    ensures { λ b. ⌜ b ≡ sound642 r ⌝ }
+{
+    guideline::both(
+        Range::codes_from_1().holds(r.gpdbas),
+        guideline::both(
+            Range::care_groups().holds(r.gpdzco),
+            guideline::both(
+                Range::codes().holds(r.icpcnr1),
+                guideline::both(
+                    Range::icpctos().holds(r.icpcto),
+                    guideline::both(
+                        Range::codes().holds(r.gpktwg),
+                        Range::codes_from_1().holds(r.gpdcat),
+                    ),
+                ),
+            ),
+        ),
+    )
+}
+
+fn passes(r: Row642, test: Test642) -> bool
+    ensures { λ b. ⌜ b ≡ test642 test r ⌝ }
+{
+    match test {
+        Test642::Care(basis, s) => guideline::both(r.gpdbas == basis, r.gpdzco == s.care),
+        Test642::Reason(basis, s) => guideline::both(
+            r.gpdbas == basis,
+            guideline::both(r.gpdzco == s.care, of_reason(r, s)),
+        ),
+        Test642::Route(basis, s) => guideline::both(
+            r.gpdbas == basis,
+            guideline::both(
+                r.gpdzco == s.care,
+                guideline::both(of_reason(r, s), r.gpktwg == s.route),
+            ),
+        ),
+        Test642::Unsound => !in_range(r),
+    }
+}
+
+fn tally(t: &[u8], test: Test642) -> Tally
+    ensures { λ r. ⌜ r ≡ tallied (λ i. test642 test (row642 (cell width642 (now (t .entry)) i))) (length (now (t .entry)) / 24) ⌝ }
+{
+    let rows = t.len() / ROW;
+    let mut count: usize = 0;
+    let mut last: usize = 0;
+    let mut i: usize = 0;
+    while i < rows {
+        let here = i;
+        i += 1;
+        if passes(row(t, here), test) {
+            count += 1;
+            last = here;
+        }
+    }
+    Tally { count, last }
+}
+
+// Which rows are such?
+pub fn ask(t: &[u8], test: Test642) -> Found642
+    ensures { λ r. ⌜ r ≡ found642 (rows642 (now (t .entry)) (test642 test)) ⌝ }
+{
+    let tally = tally(t, test);
+    let count = tally.count;
+    match count {
+        0 => Found642::Nothing,
+        1 => Found642::One(row(t, tally.last)),
+        _ => Found642::Many(count),
+    }
+}
+
+// Is there such a row?
+pub fn any(t: &[u8], test: Test642) -> bool
+    ensures { λ r. ⌜ r ≡ some (rows642 (now (t .entry)) (test642 test)) ⌝ }
+{
+    let tally = tally(t, test);
+    tally.count != 0
+}
+
+// 122: is each field of each row in its range?
+pub fn all_in_range(t: &[u8]) -> bool
+    ensures { λ r. ⌜ r ≡ all-rows sound642 (rows642 (now (t .entry))) ⌝ }
+{
+    let tally = tally(t, Test642::Unsound);
+    tally.count == 0
+}
