@@ -1,3 +1,6 @@
 pub mod Chosen
 pub mod Kept
 pub mod Level
+pub mod Places
+pub mod Filters
+pub mod Remembered

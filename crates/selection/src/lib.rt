@@ -5,10 +5,12 @@ use guideline::Row641;
 use guideline::Row642;
 use guideline::Row649;
 
+pub mod filter;
 pub mod level;
 pub mod limits;
 pub mod person;
 pub mod product;
+pub mod remembered;
 pub mod setting;
 
 pub enum Chosen640 {

@@ -58,10 +58,12 @@ fn exact(base: u64, entered: u64) -> Converted
 {
     let b = Amount { cdhoev: base };
     let n = Amount { cdhoev: entered };
-    if guideline::either(b.is_zero(), n.is_zero()) {
+    let zero = guideline::either(b.is_zero(), n.is_zero());
+    let large = guideline::either(b.is_large(), n.is_large());
+    if zero {
         return Converted::Refused(Refusal::Ends(Reason::AmountZero));
     }
-    if guideline::either(b.is_large(), n.is_large()) {
+    if large {
         return Converted::Refused(Refusal::Ends(Reason::AmountLarge));
     }
     Converted::Ratio(Ratio { base, entered })

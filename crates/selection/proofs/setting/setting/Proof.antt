@@ -12,21 +12,21 @@ use Rattle.selection.proofs.setting.setting.Tie as tie
 
 returns : tie.Need-returns
 unfolding one choose refuse
-returns c = 
+returns c =
     let a = c .before .before .before .before .before .before .before .before .args in
     let e = rw (c .before .before .before .before .keep-reason .ensures, c .before .before .before .before .before .keep-care .ensures, c .before .before .before .before .before .before .entered .ensures) at (c .before .before .before .keep-route .ensures) in
     rw (setting-kept (rows642 (now (a .t642))) (a .basis) (a .e), ← e, found-hits642 (rows642 (now (a .t642)) (test642 (Route (a .basis) (c .before .before .before .keep-route .result)))) (c .before .before .ask .ensures) (c .enum-told .given .1))
 
 returns-2 : tie.Need-returns-2
 unfolding one choose refuse
-returns-2 c = 
+returns-2 c =
     let a = c .before .before .before .before .before .before .before .before .before .args in
     let e = rw (c .before .before .before .before .before .keep-reason .ensures, c .before .before .before .before .before .before .keep-care .ensures, c .before .before .before .before .before .before .before .entered .ensures) at (c .before .before .before .before .keep-route .ensures) in
     rw (setting-kept (rows642 (now (a .t642))) (a .basis) (a .e), ← e, found-hits642 (rows642 (now (a .t642)) (test642 (Route (a .basis) (c .before .before .before .before .keep-route .result)))) (c .before .before .before .ask .ensures) (c .before .found .given .1))
 
 returns-3 : tie.Need-returns-3
 unfolding one choose refuse
-returns-3 c = 
+returns-3 c =
     let a = c .before .before .before .before .before .before .before .before .args in
     let e = rw (c .before .before .before .before .keep-reason .ensures, c .before .before .before .before .before .keep-care .ensures, c .before .before .before .before .before .before .entered .ensures) at (c .before .before .before .keep-route .ensures) in
     rw (setting-kept (rows642 (now (a .t642))) (a .basis) (a .e), ← e, found-hits642 (rows642 (now (a .t642)) (test642 (Route (a .basis) (c .before .before .before .keep-route .result)))) (c .before .before .ask .ensures) (c .enum-told2 .given .1))
