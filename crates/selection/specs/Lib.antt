@@ -4,3 +4,4 @@ pub mod Level
 pub mod Places
 pub mod Filters
 pub mod Remembered
+pub mod Narrowed

@@ -3,8 +3,10 @@ use guideline::Refusal;
 use guideline::Row640;
 use guideline::Row641;
 use guideline::Row642;
+use guideline::Row643;
 use guideline::Row649;
 
+pub mod dose_row;
 pub mod filter;
 pub mod level;
 pub mod limits;
@@ -30,6 +32,11 @@ pub enum Chosen641 {
 
 pub enum Chosen642 {
     Row(Row642),
+    Refused(Refusal),
+}
+
+pub enum Chosen643 {
+    Row(Row643),
     Refused(Refusal),
 }
 

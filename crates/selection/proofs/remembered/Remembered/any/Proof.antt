@@ -27,19 +27,19 @@ row-requires : tie.Need-row-requires Inv-loop μ-loop
 row-requires c κs = c .before .before .before .before .pre .below (c .before .loop .i) (omega arith)
 
 returns : tie.Need-returns Inv-loop μ-loop
-returns c = 
+returns c =
     let a = c .before .before .before .before .before .before .before .args in
     let k = c .before .before .before .before .loop in
     sym (some-found (now (a .t)) (a .self) (filter643 (a .filter)) (k .i) (omega arith) (ap (filter643 (a .filter)) (sym (c .before .before .row .ensures)) ∙ sym (c .before .passes .ensures) ∙ c .if1 .taken))
 
 loop-again : tie.Need-loop-again Inv-loop μ-loop
-loop-again c = 
+loop-again c =
     let a = c .before .before .before .before .before .before .before .args in
     let k = c .before .before .before .before .loop in
     (search needs, missed-more _ _ (k .i) (k .inv .1) (ap (filter643 (a .filter)) (sym (c .before .before .row .ensures)) ∙ sym (c .before .passes .ensures) ∙ c .if1 .left))
 
 returns-2 : tie.Need-returns-2 Inv-loop μ-loop
-returns-2 c = 
+returns-2 c =
     let a = c .before .before .before .before .args in
     let k = c .before .loop in
     let e : k .i ≡ a .self .len = omega arith in

@@ -20,7 +20,7 @@ loop-holds : tie.Need-loop-holds Inv-loop μ-loop
 loop-holds c = (search needs, record { cells = refl; same = refl }, search needs)
 
 array-write-at : tie.Need-array-write-at Inv-loop μ-loop
-array-write-at c = 
+array-write-at c =
     let b = c .before .before .before .before .before .before in
     let a = b .args in
     let k = c .before .before .before .before .loop in
@@ -30,7 +30,7 @@ add-len : tie.Need-add-len Inv-loop μ-loop
 add-len c = search needs
 
 loop-again : tie.Need-loop-again Inv-loop μ-loop
-loop-again c = 
+loop-again c =
     let b = c .before .before .before .before .before .before in
     let a = b .args in
     let k = c .before .before .before .before .loop in
@@ -39,13 +39,13 @@ loop-again c =
     (search needs, keeping-hit (k .inv .1) free hit, omega arith)
 
 loop-again-2 : tie.Need-loop-again-2 Inv-loop μ-loop
-loop-again-2 c = 
+loop-again-2 c =
     let a = c .before .before .before .before .before .before .args in
     let k = c .before .before .before .before .loop in
     (search needs, keeping-miss (k .inv .1) (ap (aged (a .category) (a .age)) (sym (c .before .before .row .ensures)) ∙ sym (c .before .is-aged .ensures) ∙ c .if1 .left), search needs)
 
 returns : tie.Need-returns Inv-loop μ-loop
-returns c = 
+returns c =
     let a = c .before .before .before .args in
     let k = c .before .loop in
     let e : k .i ≡ rows-in (now (a .t)) = omega arith in

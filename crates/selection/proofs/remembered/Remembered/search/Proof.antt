@@ -36,7 +36,7 @@ loop-holds : tie.Need-loop-holds Inv-loop μ-loop Inv-loop2 μ-loop2 Inv-search 
 loop-holds c = (search needs, refl)
 
 array-read-row : tie.Need-array-read-row Inv-loop μ-loop Inv-loop2 μ-loop2 Inv-search μ-search
-array-read-row c = 
+array-read-row c =
     let v = c .before .before .before .before .before .pre in
     omega (arith, v .cells, v .most)
 
@@ -44,19 +44,19 @@ row-requires : tie.Need-row-requires Inv-loop μ-loop Inv-loop2 μ-loop2 Inv-sea
 row-requires c κs = c .before .before .before .before .before .pre .below (c .before .loop .i) (omega arith)
 
 loop-again : tie.Need-loop-again Inv-loop μ-loop Inv-loop2 μ-loop2 Inv-search μ-search
-loop-again c = 
+loop-again c =
     let a = c .before .before .before .before .before .before .before .before .args in
     let k = c .before .before .before .before .loop in
     (search needs, missed-more _ _ (k .i) (k .inv .1) (ap (filter643 (Exact (a .f))) (sym (c .before .before .row .ensures)) ∙ sym (c .before .passes .ensures) ∙ c .if1 .left))
 
 loop2-holds : tie.Need-loop2-holds Inv-loop μ-loop Inv-loop2 μ-loop2 Inv-search μ-search
-loop2-holds c = 
+loop2-holds c =
     let k = c .before .loop in
     let e : k .i ≡ c .before .before .before .before .before .args .self .len = omega arith in
     (search needs, rw e at (k .inv .1), refl)
 
 array-read-row-2 : tie.Need-array-read-row-2 Inv-loop μ-loop Inv-loop2 μ-loop2 Inv-search μ-search
-array-read-row-2 c = 
+array-read-row-2 c =
     let v = c .before .before .before .before .before .before .before .pre in
     omega (arith, v .cells, v .most)
 
@@ -64,25 +64,25 @@ row-requires-2 : tie.Need-row-requires-2 Inv-loop μ-loop Inv-loop2 μ-loop2 Inv
 row-requires-2 c κs = c .before .before .before .before .before .before .before .pre .below (c .before .loop2 .j) (omega arith)
 
 loop2-again : tie.Need-loop2-again Inv-loop μ-loop Inv-loop2 μ-loop2 Inv-search μ-search
-loop2-again c = 
+loop2-again c =
     let a = c .before .before .before .before .before .before .before .before .before .before .args in
     let k = c .before .before .before .before .loop2 in
     (search needs, k .inv .1, missed-more _ _ (k .j) (k .inv .2) (ap (filter643 (Twin (a .f))) (sym (c .before .before .row2 .ensures)) ∙ sym (c .before .passes2 .ensures) ∙ c .if2 .left))
 
 returns : tie.Need-returns Inv-loop μ-loop Inv-loop2 μ-loop2 Inv-search μ-search
-returns c = 
+returns c =
     let a = c .before .before .before .before .before .before .before .before .args in
     let k = c .before .before .before .before .loop in
     (omega arith, ap (filter643 (Exact (a .f))) (sym (c .before .before .row .ensures)) ∙ sym (c .before .passes .ensures) ∙ c .if1 .taken, k .inv .1)
 
 returns-2 : tie.Need-returns-2 Inv-loop μ-loop Inv-loop2 μ-loop2 Inv-search μ-search
-returns-2 c = 
+returns-2 c =
     let a = c .before .before .before .before .before .before .before .before .before .before .args in
     let k = c .before .before .before .before .loop2 in
     (k .inv .1, omega arith, ap (filter643 (Twin (a .f))) (sym (c .before .before .row2 .ensures)) ∙ sym (c .before .passes2 .ensures) ∙ c .if2 .taken, k .inv .2)
 
 returns-3 : tie.Need-returns-3 Inv-loop μ-loop Inv-loop2 μ-loop2 Inv-search μ-search
-returns-3 c = 
+returns-3 c =
     let k = c .before .loop2 in
     let e : k .j ≡ c .before .before .before .before .before .before .before .args .self .len = omega arith in
     (k .inv .1, rw e at (k .inv .2))

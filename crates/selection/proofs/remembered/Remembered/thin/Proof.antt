@@ -27,22 +27,22 @@ row-requires : tie.Need-row-requires Inv-loop μ-loop
 row-requires c κs = c .before .before .before .before .pre .0 .below (c .before .loop .i) (omega arith)
 
 mul-at : tie.Need-mul-at Inv-loop μ-loop
-mul-at c = 
+mul-at c =
     let k = c .before .before .before .before .loop in
     omega (arith, keeping-few (k .inv .1), c .before .before .before .before .before .before .before .pre .0 .most)
 
 array-write-at : tie.Need-array-write-at Inv-loop μ-loop
-array-write-at c = 
+array-write-at c =
     let k = c .before .before .before .before .loop in
     omega (arith, k .inv .1 .cells, keeping-few (k .inv .1), c .before .before .before .before .before .before .before .pre .0 .most)
 
 add-len : tie.Need-add-len Inv-loop μ-loop
-add-len c = 
+add-len c =
     let k = c .before .before .before .before .loop in
     omega (arith, keeping-few (k .inv .1))
 
 loop-again : tie.Need-loop-again Inv-loop μ-loop
-loop-again c = 
+loop-again c =
     let b = c .before .before .before .before .before .before .before in
     let a = b .args in
     let k = c .before .before .before .before .loop in
@@ -50,13 +50,13 @@ loop-again c =
     (search needs, keeping-hit (k .inv .1) free (ap (filter643 (a .filter)) (sym (c .before .before .row .ensures)) ∙ sym (c .before .passes .ensures) ∙ c .if1 .taken))
 
 loop-again-2 : tie.Need-loop-again-2 Inv-loop μ-loop
-loop-again-2 c = 
+loop-again-2 c =
     let a = c .before .before .before .before .before .before .before .args in
     let k = c .before .before .before .before .loop in
     (search needs, keeping-miss (k .inv .1) (ap (filter643 (a .filter)) (sym (c .before .before .row .ensures)) ∙ sym (c .before .passes .ensures) ∙ c .if1 .left))
 
 returns : tie.Need-returns Inv-loop μ-loop
-returns c = 
+returns c =
     let b = c .before .before .before .before in
     let a = b .args in
     let k = c .before .loop in

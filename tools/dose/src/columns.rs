@@ -1,0 +1,114 @@
+//! Document 01's fields in their order, under their names. The only place that knows which field stands where.
+
+/// What a cell of a column may hold.
+#[derive(Clone, Copy, PartialEq)]
+pub enum Content {
+    /// A whole number of 32 bits.
+    Number,
+    /// A whole number of 64 bits: CDHOEV.
+    Wide,
+    /// A whole number of 32 bits, or blank.
+    NumberOrBlank,
+    /// `on`, `off` or blank: months.
+    OnOffOrBlank,
+}
+
+pub struct Column {
+    pub name: &'static str,
+    pub content: Content,
+}
+
+pub struct Table {
+    pub file: &'static str,
+    pub columns: &'static [Column],
+}
+
+/// The optional first column of the entries.
+pub const NAME: &str = "name";
+
+const fn number(name: &'static str) -> Column {
+    Column { name, content: Content::Number }
+}
+
+const fn wide(name: &'static str) -> Column {
+    Column { name, content: Content::Wide }
+}
+
+const fn or_blank(name: &'static str) -> Column {
+    Column { name, content: Content::NumberOrBlank }
+}
+
+const fn on_off(name: &'static str) -> Column {
+    Column { name, content: Content::OnOffOrBlank }
+}
+
+/// The tables in the order in which a case has them.
+pub const TABLES: [Table; 6] = [
+    Table { file: "640.csv", columns: &[number("GPKODE"), number("GPDGST"), number("GPRISC")] },
+    Table {
+        file: "641.csv",
+        columns: &[number("GPKODE"), number("PRKODE"), number("HPKODE"), number("GPDCOD"), number("GPDBAS")],
+    },
+    Table {
+        file: "642.csv",
+        columns: &[
+            number("GPDBAS"),
+            number("GPDZCO"),
+            number("ICPCNR1"),
+            number("ICPCTO"),
+            number("GPKTWG"),
+            number("GPDCAT"),
+        ],
+    },
+    Table {
+        file: "643.csv",
+        columns: &[
+            number("GPDCAT"),
+            number("GPDLFM"),
+            number("GPDLFX"),
+            number("GPDFAA"),
+            number("GPDFEE"),
+            number("GPDKGM"),
+            number("GPDKGX"),
+            number("surface low"),
+            number("surface high"),
+            number("GPDDNR"),
+        ],
+    },
+    Table {
+        file: LIMITS,
+        columns: &[number(RULE), number(NORM_MINIMUM), number(NORM_MAXIMUM), number(ABSOLUTE_MAXIMUM)],
+    },
+    Table { file: "730.csv", columns: &[number("SRTCDE"), number("CODE"), wide("CDHOEV"), number("CDEENH")] },
+];
+
+pub const ENTRY: &[Column] = &[
+    number("GPK"),
+    or_blank("PRK"),
+    or_blank("HPK"),
+    or_blank("age"),
+    or_blank("sex"),
+    or_blank("weight"),
+    or_blank("surface"),
+    number("care group"),
+    number("reason"),
+    number("ICPCTO"),
+    number("route"),
+    number("count"),
+    number("time unit"),
+    number("lowest"),
+    number("highest"),
+    number("entered unit"),
+    number(BASE_UNIT),
+    number("SRTCDE"),
+    number("CODE"),
+    on_off("months"),
+];
+
+// The fields that the front itself reads, to show the limits.
+pub const LIMITS: &str = "649.csv";
+pub const RULE: &str = "GPDDNR";
+pub const NORM_MINIMUM: &str = "norm minimum";
+pub const NORM_MAXIMUM: &str = "norm maximum";
+pub const ABSOLUTE_MAXIMUM: &str = "absolute maximum";
+pub const BASE_UNIT: &str = "base unit";

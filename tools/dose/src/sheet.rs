@@ -1,0 +1,147 @@
+//! A CSV file read against its columns: all of it, or every fault in it.
+
+use crate::columns::{Column, NAME};
+use crate::failure::Fault;
+use crate::{csv, header, number};
+use std::borrow::Cow;
+use std::path::Path;
+
+pub struct Sheet {
+    columns: &'static [Column],
+    /// The cells of all rows, one row after the other.
+    numbers: Vec<u64>,
+    /// For each row its name, or its line where the file has no names.
+    labels: Vec<String>,
+    pub is_named: bool,
+}
+
+impl Sheet {
+    pub fn len(&self) -> usize {
+        self.labels.len()
+    }
+
+    pub fn rows(&self) -> impl Iterator<Item = &[u64]> {
+        self.numbers.chunks_exact(self.columns.len())
+    }
+
+    pub fn columns(&self) -> &'static [Column] {
+        self.columns
+    }
+
+    pub fn label(&self, row: usize) -> &str {
+        &self.labels[row]
+    }
+
+    /// The place of a field in a row.
+    pub fn place(&self, name: &str) -> usize {
+        self.columns.iter().position(|column| column.name == name).expect("a field of this file")
+    }
+}
+
+/// Whether the first column may be the name of the row.
+#[derive(Clone, Copy, PartialEq)]
+pub enum Names {
+    Allowed,
+    None,
+}
+
+pub fn read(path: &Path, columns: &'static [Column], names: Names) -> Result<Sheet, Vec<Fault>> {
+    let file = path.display().to_string();
+    let bytes =
+        std::fs::read(path).map_err(|e| vec![Fault::of_file(&file, format!("cannot be read: {e}"))])?;
+    let lines = csv::lines(&bytes).map_err(|line| {
+        vec![Fault::of_line(&file, line, "is not UTF-8 text: save the file as CSV UTF-8".to_string())]
+    })?;
+    let sheet = Sheet { columns, numbers: Vec::new(), labels: Vec::new(), is_named: false };
+    let mut reader = Reader { file: &file, sheet, faults: Vec::new() };
+    reader.header(lines.first().unwrap_or(&""), names);
+    if reader.faults.is_empty() {
+        for (i, line) in lines.iter().enumerate().skip(1) {
+            reader.row(i + 1, line);
+        }
+    }
+    if reader.faults.is_empty() {
+        Ok(reader.sheet)
+    } else {
+        Err(reader.faults)
+    }
+}
+
+struct Reader<'a> {
+    file: &'a str,
+    sheet: Sheet,
+    faults: Vec<Fault>,
+}
+
+impl Reader<'_> {
+    fn header(&mut self, line: &str, names: Names) {
+        let cells = match csv::cells(line) {
+            Ok(cells) => cells,
+            Err(bad) => {
+                let what = format!("column {}: {}", bad.place + 1, bad.what);
+                return self.faults.push(Fault::of_line(self.file, 1, what));
+            }
+        };
+        let mut found: Vec<&str> = cells.iter().map(|cell| cell.as_ref()).collect();
+        self.sheet.is_named = names == Names::Allowed && found[0] == NAME;
+        if self.sheet.is_named {
+            found.remove(0);
+        }
+        let faults = header::faults(self.sheet.columns, &found, 1 + self.before());
+        self.faults.extend(faults.into_iter().map(|what| Fault::of_line(self.file, 1, what)));
+    }
+
+    /// The number of columns before document 01's.
+    fn before(&self) -> usize {
+        usize::from(self.sheet.is_named)
+    }
+
+    fn row(&mut self, line: usize, text: &str) {
+        let cells = match csv::cells(text) {
+            Ok(cells) => cells,
+            Err(bad) => {
+                let fault = Fault::of_field(self.file, line, &self.field(bad.place), bad.what.to_string());
+                return self.faults.push(fault);
+            }
+        };
+        if let Some(what) = self.wrong_count(&cells) {
+            return self.faults.push(Fault::of_line(self.file, line, what));
+        }
+        for (place, cell) in cells.iter().enumerate().skip(self.before()) {
+            match number::read(cell, self.sheet.columns[place - self.before()].content) {
+                Ok(number) => self.sheet.numbers.push(number),
+                Err(what) => self.faults.push(Fault::of_field(self.file, line, &self.field(place), what)),
+            }
+        }
+        if self.sheet.is_named && cells[0].is_empty() {
+            self.faults.push(Fault::of_field(self.file, line, NAME, "the cell is blank".to_string()));
+        }
+        self.sheet.labels.push(if self.sheet.is_named { cells[0].to_string() } else { line.to_string() });
+    }
+
+    /// The field of the cell at this place of a line.
+    fn field(&self, place: usize) -> String {
+        if place < self.before() {
+            return NAME.to_string();
+        }
+        match self.sheet.columns.get(place - self.before()) {
+            Some(column) => column.name.to_string(),
+            None => format!("column {}", place + 1),
+        }
+    }
+
+    fn wrong_count(&self, cells: &[Cow<str>]) -> Option<String> {
+        let wanted = self.sheet.columns.len() + self.before();
+        if cells.len() == wanted {
+            return None;
+        }
+        if cells.len() == 1 && cells[0].is_empty() {
+            return Some("the line is empty".to_string());
+        }
+        let said = format!("{} cells stand on this line and {wanted} in the header", cells.len());
+        Some(match cells.len() < wanted {
+            true => format!("{said}: it ends before {}", self.field(cells.len())),
+            false => format!("{said}: nothing may stand after {}", self.field(wanted - 1)),
+        })
+    }
+}

@@ -1,0 +1,56 @@
+//! Document 01's table of answers, in words.
+
+use crate::answer::Answer;
+
+const COMPARED: u32 = 100;
+
+/// The meaning of an answer, if document 01 has it.
+pub fn of(answer: u32) -> Option<&'static str> {
+    Some(match answer {
+        COMPARED => "compared",
+        101 => "age missing",
+        102 => "sex missing",
+        103 => "HPK missing",
+        104 => "PRK missing",
+        105 => "weight missing",
+        106 => "surface missing",
+        110 => "no GPK",
+        111 => "GPK not in 640",
+        112 => "sex not allowed",
+        113 => "no setting in 642",
+        114 => "no row for the age",
+        115 => "no row for the frequency: only the count differs",
+        116 => "no row for the frequency: only the unit differs",
+        117 => "no row for the frequency: count and unit differ",
+        118 => "no row for the weight",
+        119 => "no row for the surface",
+        120 => "over 512 rows in the category",
+        121 => "table not whole rows, or too long",
+        122 => "field out of range",
+        123 => "several rows where one is needed",
+        124 => "needed row absent",
+        125 => "entry out of range",
+        126 => "unit row absent",
+        127 => "amount zero",
+        128 => "amount (CDHOEV) above 9,999,999,999",
+        _ => return None,
+    })
+}
+
+/// The answer in words, with the table it names and what a comparison found.
+pub fn sentence(answer: &Answer) -> String {
+    let mut said = of(answer.answer).unwrap_or("unknown").to_string();
+    if answer.table != 0 {
+        said += &format!(" (table {})", answer.table);
+    }
+    if answer.answer == COMPARED {
+        said += match answer.high {
+            0 => "",
+            1 => ", highest dose above the norm maximum",
+            _ => ", highest dose above the absolute maximum",
+        };
+        said += if answer.low == 0 { "" } else { ", lowest dose below the norm minimum" };
+        said += if answer.high == 0 && answer.low == 0 { ", neither high nor low" } else { "" };
+    }
+    said
+}

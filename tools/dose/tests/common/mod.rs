@@ -1,0 +1,105 @@
+//! What the tests share: a folder of their own with a copy of the sample, and the front run over a fake program.
+#![allow(dead_code)] // each test file uses a part of it
+
+use std::fs;
+use std::path::{Path, PathBuf};
+use std::process::{Command, Output};
+
+pub const TABLES: [&str; 6] = ["640.csv", "641.csv", "642.csv", "643.csv", "649.csv", "730.csv"];
+pub const ENTRIES: &str = "entries.csv";
+pub const SAMPLE: &str = concat!(env!("CARGO_MANIFEST_DIR"), "/sample");
+pub const FAKE: &str = concat!(env!("CARGO_MANIFEST_DIR"), "/tests/fake.sh");
+
+/// A copy of the proof table with its entries, to be changed by a test.
+pub struct Room {
+    pub folder: PathBuf,
+}
+
+pub struct Ran {
+    pub status: i32,
+    pub said: String,
+    pub complained: String,
+}
+
+impl Room {
+    pub fn new(test: &str) -> Room {
+        let folder = Path::new(env!("CARGO_TARGET_TMPDIR")).join(test);
+        let _ = fs::remove_dir_all(&folder);
+        fs::create_dir_all(&folder).unwrap();
+        let room = Room { folder };
+        for file in TABLES.iter().chain([&ENTRIES]) {
+            room.write(file, sample(file));
+        }
+        room.fake_says(&paper_lines());
+        room
+    }
+
+    pub fn write(&self, file: &str, content: impl AsRef<[u8]>) {
+        fs::write(self.folder.join(file), content).unwrap();
+    }
+
+    pub fn fake_says(&self, lines: &str) {
+        self.write("says", lines);
+    }
+
+    /// `dose check` over the room's files.
+    pub fn check(&self, more: &[&str]) -> Ran {
+        let mut command = self.dose();
+        command.arg("check").arg(&self.folder).arg(self.folder.join(ENTRIES));
+        ran(command.args(["--program", FAKE]).args(more))
+    }
+
+    pub fn units(&self, file: &str) -> Ran {
+        ran(self.dose().arg("units").arg(self.folder.join(file)).args(["--program", FAKE]))
+    }
+
+    /// The front, with the fake program's orders; what the fake heard before is forgotten.
+    pub fn dose(&self) -> Command {
+        let _ = fs::remove_file(self.heard_file());
+        let mut command = Command::new(env!("CARGO_BIN_EXE_dose"));
+        command.env("FAKE_SAYS", self.folder.join("says")).env("FAKE_HEARD", self.heard_file());
+        command
+    }
+
+    fn heard_file(&self) -> PathBuf {
+        self.folder.join("heard")
+    }
+
+    /// What the fake program heard, if it was started.
+    pub fn heard(&self) -> Option<Vec<u8>> {
+        fs::read(self.heard_file()).ok()
+    }
+
+    /// The check must be refused with these words, without a line printed and without the program started.
+    pub fn refused(&self, words: &[&str]) {
+        let ran = self.check(&[]);
+        assert_eq!(ran.status, 2, "{words:?}: {}", ran.complained);
+        assert_eq!(ran.said, "", "{words:?}");
+        assert!(self.heard().is_none(), "{words:?}: the program was started");
+        assert!(ran.complained.contains("nothing was checked"), "{}", ran.complained);
+        for word in words {
+            assert!(ran.complained.contains(word), "`{word}` is not in:\n{}", ran.complained);
+        }
+    }
+}
+
+pub fn ran(command: &mut Command) -> Ran {
+    let Output { status, stdout, stderr } = command.output().unwrap();
+    Ran {
+        status: status.code().expect("the front ends by itself"),
+        said: String::from_utf8(stdout).unwrap(),
+        complained: String::from_utf8(stderr).unwrap(),
+    }
+}
+
+/// A file of the proof table's folder.
+pub fn sample(file: &str) -> String {
+    fs::read_to_string(Path::new(SAMPLE).join("proof-table").join(file)).unwrap()
+}
+
+/// expected.csv, written from document 01, as the lines of the program `answers`.
+pub fn paper_lines() -> String {
+    let expected = sample("expected.csv");
+    let numbers = |line: &str| line.split_once(',').unwrap().1.replace(',', " ") + "\n";
+    expected.lines().skip(1).map(numbers).collect()
+}

@@ -1,0 +1,73 @@
+//! The eight numbers, with the test that gave them and the ways the steps went.
+
+use super::{text, Compared, Test, Ways};
+use crate::fault::Fault;
+use crate::switch::Switch;
+
+/// What the steps have chosen so far; a number not reached is 0.
+#[derive(Clone, Copy, Default)]
+pub struct Found {
+    pub basis: u32,
+    pub category: u32,
+    pub rule: u32,
+    pub ways: Ways,
+}
+
+#[derive(Clone, Copy)]
+pub struct Answer {
+    /// answer, text, table, basis, category, rule, high, low
+    pub numbers: [u32; 8],
+    pub test: Test,
+    pub ways: Ways,
+    pub compared: Option<Compared>,
+}
+
+impl Answer {
+    pub fn refused<S: Switch>(s: S, test: Test, found: &Found) -> Answer {
+        let mut basis = found.basis;
+        let mut category = found.category;
+        let mut table = test.table();
+        if s.on(Fault::BasisZeroIn113) && test.answer() == 113 {
+            basis = 0;
+        }
+        if s.on(Fault::CategoryZeroIn120) && test == Test::CategoryTooLong {
+            category = 0;
+        }
+        if s.on(Fault::TableIn113) && test.answer() == 113 {
+            table = 642;
+        }
+        if s.on(Fault::TableIn126Absent) && test.answer() == 126 {
+            table = 0;
+        }
+        let text = text::of_refusal(test);
+        let numbers = [test.answer(), text, table, basis, category, found.rule, 0, 0];
+        Answer { numbers, test, ways: found.ways, compared: None }
+    }
+
+    pub fn compared<S: Switch>(s: S, compared: Compared, found: &Found) -> Answer {
+        let Compared { high, low, gprisc, .. } = compared;
+        let text = text::of_compared(s, high, low, gprisc);
+        let text = if s.on(Fault::Text16WithoutNorm) && compared.limits.maximum == 0 && high == 0 { 16 } else { text };
+        let numbers = [100, text, 0, found.basis, found.category, found.rule, high, low];
+        Answer { numbers, test: Test::Compared, ways: found.ways, compared: Some(compared) }
+    }
+
+    /// Eight numbers with one space between, ended by a line feed.
+    pub fn line(&self, out: &mut Vec<u8>) {
+        for (place, number) in self.numbers.iter().enumerate() {
+            if place > 0 {
+                out.push(b' ');
+            }
+            push_number(out, *number as u64);
+        }
+        out.push(b'\n');
+    }
+}
+
+/// A number in digits, no zeros in front.
+pub fn push_number(out: &mut Vec<u8>, number: u64) {
+    if number >= 10 {
+        push_number(out, number / 10);
+    }
+    out.push(b'0' + (number % 10) as u8);
+}

@@ -1,0 +1,132 @@
+//! Bulk comparison of another program with this one, line by line.
+
+use super::program::{self, Output};
+use super::show;
+use crate::generate::{self, case::Case, records::unit_file};
+use crate::record::list::{records, unit_list};
+use crate::run::{answers_of, answers_of_bytes};
+use crate::switch::Right;
+use std::time::Instant;
+
+/// Cases for each start of the program.
+const BATCH: u64 = 2_000;
+/// Batches between two lines of progress.
+const PROGRESS: u64 = 25;
+
+pub struct Run<'a> {
+    pub seed: u64,
+    pub first: u64,
+    pub cases: u64,
+    pub quiet: bool,
+    pub answers: Option<&'a str>,
+    pub units: Option<&'a str>,
+}
+
+/// The number of lines compared, or the first difference.
+pub fn run(run: &Run) -> Result<u64, String> {
+    let start = Instant::now();
+    let mut lines = 0;
+    let end = run.first + run.cases;
+    for (batch, first) in (run.first..end).step_by(BATCH as usize).enumerate() {
+        let numbers = first..end.min(first + BATCH);
+        if let Some(program) = run.answers {
+            lines += answers(program, run.seed, numbers.clone())?;
+        }
+        if let Some(program) = run.units {
+            lines += units(program, run.seed, numbers)?;
+        }
+        if batch as u64 % PROGRESS == PROGRESS - 1 && !run.quiet {
+            let done = end.min(first + BATCH) - run.first;
+            eprintln!("{done} of {} cases, {lines} lines equal, {:.0?}", run.cases, start.elapsed());
+        }
+    }
+    Ok(lines)
+}
+
+fn answers(program: &str, seed: u64, numbers: std::ops::Range<u64>) -> Result<u64, String> {
+    let mut stream = vec![];
+    let mut expected = vec![];
+    let mut ends = vec![];
+    for number in numbers.clone() {
+        let case = generate::case(seed, number);
+        let bytes = case.bytes();
+        for answer in answers_of_bytes(Right, &case, &bytes) {
+            answer.line(&mut expected);
+            ends.push((number, expected.len()));
+        }
+        stream.extend(bytes);
+    }
+    let Output { bytes: out, ended } = program::output(program, &stream)?;
+    if out == expected {
+        return ended.map(|()| ends.len() as u64);
+    }
+    let same = out.iter().zip(&expected).take_while(|(a, b)| a == b).count();
+    let place = ends.iter().position(|(_, end)| same < *end);
+    let Some(place) = place else {
+        return Err(format!("{program}: lines behind the last entry of cases {numbers:?}, seed {seed}"));
+    };
+    let number = ends[place].0;
+    let entry = place - ends.iter().position(|(case, _)| *case == number).unwrap_or(place);
+    let start = if place == 0 { 0 } else { ends[place - 1].1 };
+    let got = match (first_line(&out[start.min(out.len())..]), ended) {
+        (line, Ok(())) => line,
+        (line, Err(ended)) => format!("{line} ({ended})"),
+    };
+    Err(difference(program, seed, number, entry, &got, &first_line(&expected[start..])))
+}
+
+fn first_line(bytes: &[u8]) -> String {
+    let line = bytes.split(|c| *c == b'\n').next().unwrap_or_default();
+    String::from_utf8_lossy(line).to_string()
+}
+
+fn difference(program: &str, seed: u64, number: u64, entry: usize, got: &str, expected: &str) -> String {
+    let case: Case = generate::case(seed, number);
+    let test = answers_of(Right, &case)[entry].test;
+    let lines = [
+        format!("{program} differs in case {number} of seed {seed}, entry {} of {}", entry + 1, case.entries.len()),
+        show::tables(&case).trim_end().to_string(),
+        format!("entry:   {}", show::entry(&case.entries[entry])),
+        format!("second:  {expected} (by the test {test:?})"),
+        format!("program: {got}"),
+        format!("repeat:  second compare '{program}' --seed {seed} --first {number} --cases 1"),
+        format!("stream:  second generate --seed {seed} --first {number} --cases 1"),
+    ];
+    lines.join("\n")
+}
+
+/// Unit files joined to one input: each ends in CR LF, so that the last record of one is not the next one's first.
+fn units(program: &str, seed: u64, numbers: std::ops::Range<u64>) -> Result<u64, String> {
+    let file = unit_files(seed, numbers.clone());
+    let expected = unit_list(Right, &file);
+    let Output { bytes: out, ended } = program::output(program, &file)?;
+    if out == expected {
+        return ended.map(|()| expected.iter().filter(|c| **c == b'\n').count() as u64);
+    }
+    let same = out.iter().zip(&expected).take_while(|(a, b)| a == b).count();
+    let line = expected[..same].iter().filter(|c| **c == b'\n').count();
+    let of = |bytes: &[u8]| String::from_utf8_lossy(bytes).lines().nth(line).unwrap_or("(no line)").to_string();
+    let record = records(Right, &file).get(line).map_or(String::new(), |record| record.escape_ascii().to_string());
+    let (first, cases) = (numbers.start, numbers.end - numbers.start);
+    let lines = [
+        format!("{program} differs in line {} of the unit files {numbers:?}, seed {seed}", line + 1),
+        format!("record:  \"{record}\""),
+        format!("second:  {}", of(&expected)),
+        format!("program: {}{}", of(&out), ended.err().map_or(String::new(), |ended| format!(" ({ended})"))),
+        format!("repeat:  second compare --units '{program}' --seed {seed} --first {first} --cases {cases}"),
+        format!("input:   second unit-files --seed {seed} --first {first} --cases {cases}"),
+    ];
+    Err(lines.join("\n"))
+}
+
+pub fn unit_files(seed: u64, numbers: std::ops::Range<u64>) -> Vec<u8> {
+    let last = numbers.end.saturating_sub(1);
+    let mut all = vec![];
+    for number in numbers {
+        all.extend(unit_file(seed, number));
+        if number < last {
+            all.extend(b"\r\n");
+        }
+    }
+    all
+}

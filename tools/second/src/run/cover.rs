@@ -1,0 +1,206 @@
+//! How often each test gave its answer, and each step went each of its ways.
+
+use super::answers_of;
+use crate::check::entry::{HIGHEST, ICPCTO, LOWEST, MAY_BE_BLANK, NAMES, RANGES};
+use crate::check::fields::LOW_BOUNDS;
+use crate::check::test::{Amount, Shape};
+use crate::check::{Answer, Care, Level, Reason, Route, Side, Table, Test, Time, Unit};
+use crate::generate::case::{Case, Numbers};
+use crate::switch::Right;
+use std::collections::BTreeMap;
+
+/// Place of the category in the answer.
+const CATEGORY: usize = 4;
+
+/// A limit of 649.
+#[derive(Clone, Copy, PartialEq, Eq, PartialOrd, Ord, Debug)]
+pub enum Limit {
+    Minimum,
+    Maximum,
+    Absolute,
+}
+
+/// Where the dose lies to a limit; a fraction is less than one thousandth of the base unit.
+#[derive(Clone, Copy, PartialEq, Eq, PartialOrd, Ord, Debug)]
+pub enum Near {
+    NoLimit,
+    Below,
+    FractionBelow,
+    Equal,
+    FractionAbove,
+    Above,
+}
+
+/// What is counted.
+#[derive(Clone, Copy, PartialEq, Eq, PartialOrd, Ord, Debug)]
+pub enum Seen {
+    Test(Test),
+    Unit(Unit),
+    Level(Level),
+    Care(Care),
+    Reason(Reason),
+    Route(Route),
+    Time(Time),
+    WeightMatters(bool),
+    SurfaceMatters(bool),
+    /// high, low, GPRISC
+    Verdict(u32, u32, u32),
+    Dose(Limit, Near),
+}
+
+#[derive(Default)]
+pub struct Coverage {
+    pub counts: BTreeMap<Seen, u64>,
+    pub cases: u64,
+    pub entries: u64,
+}
+
+impl Coverage {
+    pub fn add(&mut self, case: &Case) {
+        self.cases += 1;
+        for (answer, entry) in answers_of(Right, case).iter().zip(&case.entries) {
+            self.entries += 1;
+            for seen in seen(answer, entry) {
+                *self.counts.entry(seen).or_default() += 1;
+            }
+        }
+    }
+
+    /// Whether the case shows something seen fewer than `times` times.
+    pub fn shows_new(&self, case: &Case, times: u64) -> bool {
+        let answers = answers_of(Right, case);
+        let mut all = answers.iter().zip(&case.entries).flat_map(|(answer, entry)| seen(answer, entry));
+        all.any(|seen| *self.counts.get(&seen).unwrap_or(&0) < times)
+    }
+
+    /// What can occur and did not.
+    pub fn missing(&self) -> Vec<Seen> {
+        required().into_iter().filter(|seen| !self.counts.contains_key(seen)).collect()
+    }
+
+    pub fn print(&self) {
+        println!("{} cases, {} entries", self.cases, self.entries);
+        for seen in required() {
+            println!("{:>9}  {}", self.counts.get(&seen).unwrap_or(&0), name(seen));
+        }
+        for (seen, count) in self.counts.iter().filter(|(seen, _)| !required().contains(seen)) {
+            println!("{count:>9}  {} (not required)", name(*seen));
+        }
+    }
+}
+
+fn seen(answer: &Answer, entry: &Numbers) -> Vec<Seen> {
+    let ways = &answer.ways;
+    let mut all = vec![Seen::Test(answer.test)];
+    all.extend((ways.unit != Unit::NotReached).then_some(Seen::Unit(ways.unit)));
+    all.extend((ways.level != Level::NotReached).then_some(Seen::Level(ways.level)));
+    if answer.numbers[CATEGORY] > 0 {
+        // Step 6 went these ways to a row, not to 113.
+        all.extend([Seen::Care(ways.care), Seen::Reason(ways.reason), Seen::Route(ways.route)]);
+    }
+    all.extend((ways.time != Time::NotReached).then_some(Seen::Time(ways.time)));
+    all.extend(ways.weight_matters.map(Seen::WeightMatters));
+    all.extend(ways.surface_matters.map(Seen::SurfaceMatters));
+    if let Some(compared) = answer.compared {
+        all.push(Seen::Verdict(compared.high, compared.low, compared.gprisc));
+        let near = |dose: u32, limit: u32| {
+            let exact = dose as u128 * compared.ratio.base as u128;
+            let bound = limit as u128 * compared.ratio.entered as u128;
+            near(exact, bound, compared.ratio.entered as u128)
+        };
+        all.push(Seen::Dose(Limit::Minimum, near(entry[LOWEST], compared.limits.minimum)));
+        all.push(Seen::Dose(Limit::Maximum, near(entry[HIGHEST], compared.limits.maximum)));
+        all.push(Seen::Dose(Limit::Absolute, near(entry[HIGHEST], compared.limits.absolute)));
+    }
+    all
+}
+
+fn near(dose: u128, bound: u128, one: u128) -> Near {
+    match () {
+        _ if bound == 0 => Near::NoLimit,
+        _ if dose == bound => Near::Equal,
+        _ if dose > bound && dose - bound < one => Near::FractionAbove,
+        _ if dose > bound => Near::Above,
+        _ if bound - dose < one => Near::FractionBelow,
+        _ => Near::Below,
+    }
+}
+
+/// All that can occur.
+pub fn required() -> Vec<Seen> {
+    let mut all: Vec<Seen> = tests().into_iter().map(Seen::Test).collect();
+    all.extend([Unit::Same, Unit::Converted].map(Seen::Unit));
+    use Level::*;
+    all.extend([Hpk, Prk, PrkAfterHpk, Base, BaseAfterHpk, BaseAfterPrk, BaseAfterBoth].map(Seen::Level));
+    all.extend([Care::All, Care::Intensive, Care::IntensiveToAll].map(Seen::Care));
+    use Reason::*;
+    all.extend([Reason::NoneGiven, Exact, ExactWithIcpcto, WithZero, ToGeneral].map(Seen::Reason));
+    all.extend([Route::NoneGiven, Route::Exact, Route::ToZero].map(Seen::Route));
+    all.push(Seen::Time(Time::Exact));
+    all.extend([21, 22, 35, 36, 40, 41, 50, 51].map(|unit| Seen::Time(Time::Twin(unit))));
+    all.extend([false, true].map(Seen::WeightMatters));
+    all.extend([false, true].map(Seen::SurfaceMatters));
+    for gprisc in 0..2 {
+        for low in 0..2 {
+            all.extend([0, 1, 2].map(|high| Seen::Verdict(high, low, gprisc)));
+        }
+    }
+    use Near::*;
+    for limit in [Limit::Minimum, Limit::Maximum, Limit::Absolute] {
+        all.extend([NoLimit, Below, FractionBelow, Equal, FractionAbove, Above].map(|near| Seen::Dose(limit, near)));
+    }
+    all
+}
+
+/// Every test that can give an answer, in document 01's order.
+pub fn tests() -> Vec<Test> {
+    use Test::*;
+    let mut all = vec![];
+    for (place, (low, _)) in RANGES.iter().enumerate() {
+        let place = place as u8;
+        all.extend((*low > 0).then_some(Entry(place, Side::Low)));
+        all.push(Entry(place, Side::High));
+    }
+    all.extend([Entry(ICPCTO as u8, Side::Odds), Entry(LOWEST as u8, Side::Odds)]);
+    for table in Table::ALL {
+        all.extend([Shape(table, self::Shape::NotWhole), Shape(table, self::Shape::TooLong)]);
+    }
+    for table in Table::ALL {
+        for (place, (_, low, _)) in table.fields().iter().enumerate() {
+            let place = place as u8;
+            all.extend((*low > 0).then_some(Range(table, place, Side::Low)));
+            all.push(Range(table, place, Side::High));
+        }
+    }
+    all.extend(LOW_BOUNDS.map(|place| Range(Table::T643, place as u8, Side::Odds)));
+    all.extend([BaseUnitAbsent, BaseUnitSeveral, EnteredUnitAbsent, EnteredUnitSeveral]);
+    all.extend([Amount::Base, Amount::Entered, Amount::Both].map(AmountZero));
+    all.extend([Amount::Base, Amount::Entered, Amount::Both].map(AmountAbove));
+    all.extend([NoGpk, GpkAbsent, GpkSeveral, AgeMissing, SexMissing, SexDiffers]);
+    all.extend([HpkMissing, HpkSeveral, PrkMissing, PrkSeveral, BaseLevelAbsent, BaseLevelSeveral]);
+    all.extend([SettingAbsent, SettingSeveral, CategoryTooLong, AgeNoRow]);
+    all.extend([OnlyCountDiffers, OnlyUnitDiffers, BothDiffer]);
+    all.extend([WeightMissing, WeightNoRow, SurfaceMissing, SurfaceNoRow]);
+    all.extend([RowsSeveral, LimitsAbsent, LimitsSeveral, Compared]);
+    all
+}
+
+fn name(seen: Seen) -> String {
+    match seen {
+        Seen::Test(test) => format!("{} {}", test.answer(), test_name(test)),
+        other => format!("    {other:?}"),
+    }
+}
+
+fn test_name(test: Test) -> String {
+    match test {
+        Test::Entry(place, side) => {
+            let blank = if MAY_BE_BLANK[place as usize] { ", given" } else { "" };
+            format!("entry, {} {side:?}{blank}", NAMES[place as usize])
+        }
+        Test::Range(table, place, side) => {
+            format!("range, {}, {} {side:?}", table.number(), table.fields()[place as usize].0)
+        }
+        other => format!("{other:?}"),
+    }
+}

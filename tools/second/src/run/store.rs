@@ -1,0 +1,94 @@
+//! Stored vectors: a program's input and the output this program gives.
+
+use super::compare::unit_files;
+use super::cover::Coverage;
+use super::faults::Faults;
+use super::{answers_of_bytes, edges};
+use crate::generate::case::Case;
+use crate::generate::{self, proof_table, FULL_640, TOO_LONG_640};
+use crate::record::list::unit_list;
+use crate::switch::Right;
+use std::{fs, io, path::Path};
+
+pub const SEED: u64 = 730;
+/// The stored stream is at most this long.
+const BYTES: usize = 3_000_000;
+/// Cases looked through for those that show something new.
+const LOOKED_THROUGH: u64 = 12_000;
+/// A case shows something new while what it shows was seen fewer times than this.
+const TIMES: u64 = 3;
+/// The rest is filled up with cases no longer than this.
+const FILLING_BYTES: usize = 2_500;
+const UNIT_FILES: u64 = 400;
+
+/// K1 to K15 first; a table that is full and one that is too long; cases that show or tell something new; others.
+pub fn cases() -> Vec<Case> {
+    let mut cases = vec![proof_table::k_case(), generate::case(SEED, FULL_640), generate::case(SEED, TOO_LONG_640)];
+    let mut coverage = Coverage::default();
+    let mut faults = Faults::new();
+    let mut others = vec![];
+    for number in 0..LOOKED_THROUGH {
+        let case = generate::light_case(SEED, number);
+        if coverage.shows_new(&case, TIMES) || faults.tell_check(&case, number) {
+            coverage.add(&case);
+            cases.push(case);
+        } else if case.bytes().len() <= FILLING_BYTES {
+            others.push(case);
+        }
+    }
+    let mut length: usize = cases.iter().map(|case| case.bytes().len()).sum();
+    for case in others {
+        length += case.bytes().len();
+        if length > BYTES {
+            break;
+        }
+        cases.push(case);
+    }
+    cases
+}
+
+fn write(dir: &Path, stdin: &[u8], stdout: &[u8]) -> io::Result<()> {
+    fs::create_dir_all(dir)?;
+    fs::write(dir.join("stdin"), stdin)?;
+    fs::write(dir.join("stdout"), stdout)
+}
+
+pub fn answers(dir: &Path) -> io::Result<(usize, usize)> {
+    let (mut stdin, mut stdout) = (vec![], vec![]);
+    let cases = cases();
+    let mut entries = 0;
+    for case in &cases {
+        let bytes = case.bytes();
+        for answer in answers_of_bytes(Right, case, &bytes) {
+            answer.line(&mut stdout);
+            entries += 1;
+        }
+        stdin.extend(bytes);
+    }
+    write(dir, &stdin, &stdout)?;
+    Ok((cases.len(), entries))
+}
+
+/// Streams long enough to be left to `second edges`.
+const LONG_STREAM: usize = 100_000;
+
+/// Each short stream of `second edges` in a folder of its own.
+pub fn broken(dir: &Path) -> io::Result<usize> {
+    let mut streams = edges::streams();
+    streams.retain(|(_, stdin, _)| stdin.len() < LONG_STREAM);
+    for (number, (_, stdin, stdout)) in streams.iter().enumerate() {
+        write(&dir.join(format!("{number:02}")), stdin, stdout.as_bytes())?;
+    }
+    Ok(streams.len())
+}
+
+pub fn unit_input() -> Vec<u8> {
+    unit_files(SEED, 0..UNIT_FILES)
+}
+
+pub fn units(dir: &Path) -> io::Result<usize> {
+    let stdin = unit_input();
+    let stdout = unit_list(Right, &stdin);
+    write(dir, &stdin, &stdout)?;
+    Ok(stdout.iter().filter(|c| **c == b'\n').count())
+}

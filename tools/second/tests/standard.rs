@@ -1,0 +1,111 @@
+//! The standard run: it reaches every test and tells every wrong version; so do the stored vectors.
+
+use second::check::{Table, Test};
+use second::fault::{Fault, Part};
+use second::generate;
+use second::run::cover::{Coverage, Seen};
+use second::run::faults::{self, Faults};
+use second::run::{compare, demand3, edges, store, STANDARD_CASES, STANDARD_SEED};
+
+const PROGRAM: &str = env!("CARGO_BIN_EXE_second");
+
+fn program(arguments: &str) -> String {
+    format!("{PROGRAM} {arguments}")
+}
+
+#[test]
+fn every_test_gives_its_answer() {
+    let mut coverage = Coverage::default();
+    for number in 0..STANDARD_CASES {
+        coverage.add(&generate::case(STANDARD_SEED, number));
+    }
+    assert_eq!(coverage.missing(), []);
+}
+
+#[test]
+fn every_wrong_version_is_told() {
+    let faults = faults::run(STANDARD_SEED, STANDARD_CASES);
+    assert_eq!(faults.untold(), [""; 0]);
+    assert!(Fault::ALL.len() >= 60 && faults.all.len() > Fault::ALL.len());
+}
+
+/// The stored vectors hold long tables of 640 alone.
+#[test]
+fn the_stored_vectors_are_as_strong() {
+    let mut coverage = Coverage::default();
+    let mut faults = Faults::new();
+    let cases = store::cases();
+    assert!(cases.iter().map(|case| case.bytes().len()).sum::<usize>() <= 3_000_000);
+    for (number, case) in cases.iter().enumerate().rev() {
+        coverage.add(case);
+        faults.tell_check(case, number as u64);
+    }
+    let other_table_too_long = |seen: &Seen| match seen {
+        Seen::Test(Test::Shape(table, second::check::test::Shape::TooLong)) => *table != Table::T640,
+        _ => false,
+    };
+    let missing: Vec<Seen> = coverage.missing().into_iter().filter(|seen| !other_table_too_long(seen)).collect();
+    assert_eq!(missing, []);
+    faults.tell_list(&store::unit_input(), 0);
+    let untold: Vec<String> = faults
+        .all
+        .iter()
+        .filter(|(version, told)| told.is_none() && version.part() != Part::Writer)
+        .map(|(version, _)| version.name())
+        .collect();
+    // Told by the end of an input only, which one input has once.
+    let by_the_end = ["EmptyRestListed", "LastRecordDropped"];
+    assert!(untold.iter().all(|name| by_the_end.iter().any(|fault| name.starts_with(fault))), "{untold:?}");
+    assert!(untold.len() < by_the_end.len(), "{untold:?}");
+}
+
+fn comparison(answers: Option<&str>, units: Option<&str>) -> Result<u64, String> {
+    compare::run(&compare::Run { seed: 77, first: 0, cases: 4_000, quiet: true, answers, units })
+}
+
+#[test]
+fn the_program_agrees_with_itself() {
+    assert!(comparison(Some(&program("answers")), Some(&program("units"))) > Ok(20_000));
+    assert_eq!(edges::run(&program("answers")), Ok(edges::streams().len()));
+}
+
+#[test]
+fn a_wrong_program_is_told_with_the_case_to_repeat() {
+    let wrong = program("answers --fault WeightHighNotCounted");
+    let what = comparison(Some(&wrong), None).expect_err("a difference");
+    let number: u64 = what
+        .split("--first ")
+        .nth(1)
+        .and_then(|rest| rest.split(' ').next())
+        .expect("a case")
+        .parse()
+        .expect("a number");
+    let again = compare::Run { seed: 77, first: number, cases: 1, quiet: true, answers: Some(&wrong), units: None };
+    assert_eq!(compare::run(&again).expect_err("the same difference"), what);
+    assert!(comparison(None, Some(&program("units --fault ColonIsDigit"))).is_err());
+    assert!(comparison(Some(&program("nothing")), None).is_err());
+    assert!(comparison(Some("no such program"), None).is_err());
+}
+
+#[test]
+fn demand_3_holds_and_faults_against_it_are_told() {
+    let judged = demand3::run(&program("answers"), 5, 2_000).expect("demand 3");
+    assert!(judged.fillings_of_the_question > 1_000 && judged.fillings_of_other_answers > 1_000, "{judged:?}");
+    for fault in
+        ["WeightByCategory", "SexBeforeAge", "PrkAskedAfterHpk", "FirstRuleRow", "MonthsDefaultOff", "HpkNeverAsked"]
+    {
+        assert!(demand3::run(&program(&format!("answers --fault {fault}")), 5, 2_000).is_err(), "{fault}");
+    }
+}
+
+#[test]
+fn the_same_seed_gives_the_same_stream() {
+    let stream = |seed: u64| {
+        let mut bytes = vec![];
+        (20..400).for_each(|number| generate::case(seed, number).write(&mut bytes));
+        bytes
+    };
+    assert_eq!(stream(3), stream(3));
+    assert_ne!(stream(3), stream(4));
+    assert_eq!(compare::unit_files(3, 0..50), compare::unit_files(3, 0..50));
+}
