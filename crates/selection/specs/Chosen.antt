@@ -7,7 +7,7 @@ use Rattle.guideline.specs.declared.Row642.{Row642}
 use Rattle.guideline.specs.declared.Row643.{Row643}
 use Rattle.guideline.specs.declared.Row649.{Row649}
 use Rattle.guideline.specs.declared.Reason.{Reason}
-use Rattle.guideline.specs.declared.Reason.the-variants.{RowsSeveral}
+use Rattle.guideline.specs.declared.Reason.the-variants.{EntryOutOfRange, RowsSeveral}
 use Rattle.guideline.specs.declared.Refusal.{Refusal}
 use Rattle.guideline.specs.declared.Refusal.the-variants.{Ends}
 use Rattle.guideline.specs.Ask.{Outcome, Chosen, Refused}
@@ -124,3 +124,112 @@ hits-found649 (Many n) = refl
 
 pub found-hits649 : (x : Hits Row649) {f g : Found649} → f ≡ found649 x → f ≡ g → x ≡ hits649 g
 found-hits649 x e k = sym (hits-found649 x) ∙ ap hits649 (sym e ∙ k)
+
+-- a step's refusal, and what its answer tells of its plan
+abbrev pub refusal640 : Chosen640 → Refusal
+refusal640 (Took640 _) = Ends EntryOutOfRange
+refusal640 (No640 r) = r
+
+abbrev outcome640 : Chosen640 → Outcome (Unit {0}) Row640
+outcome640 (Took640 r) = Chosen r
+outcome640 (No640 r) = Refused r tt
+
+back640 : (o : Outcome (Unit {0}) Row640) → o ≡ outcome640 (chosen640 o)
+back640 (Chosen r) = refl
+back640 (Refused r u) = refl
+
+pub took640 : (o : Outcome (Unit {0}) Row640) {c : Chosen640} {r : Row640} → c ≡ chosen640 o → c ≡ Took640 r → o ≡ Chosen r
+took640 o e k = back640 o ∙ ap outcome640 (sym e ∙ k)
+
+pub no640 : (o : Outcome (Unit {0}) Row640) {c : Chosen640} {w : Refusal} → c ≡ chosen640 o → c ≡ No640 w → o ≡ Refused w tt
+no640 o e k = back640 o ∙ ap outcome640 (sym e ∙ k)
+
+abbrev pub refusal-age : ChosenAge → Refusal
+refusal-age (Months _) = Ends EntryOutOfRange
+refusal-age (NoAge r) = r
+
+abbrev outcome-age : ChosenAge → Outcome (Unit {0}) ℕ
+outcome-age (Months r) = Chosen r
+outcome-age (NoAge r) = Refused r tt
+
+back-age : (o : Outcome (Unit {0}) ℕ) → o ≡ outcome-age (chosen-age o)
+back-age (Chosen r) = refl
+back-age (Refused r u) = refl
+
+pub took-age : (o : Outcome (Unit {0}) ℕ) {c : ChosenAge} {r : ℕ} → c ≡ chosen-age o → c ≡ Months r → o ≡ Chosen r
+took-age o e k = back-age o ∙ ap outcome-age (sym e ∙ k)
+
+pub no-age : (o : Outcome (Unit {0}) ℕ) {c : ChosenAge} {w : Refusal} → c ≡ chosen-age o → c ≡ NoAge w → o ≡ Refused w tt
+no-age o e k = back-age o ∙ ap outcome-age (sym e ∙ k)
+
+abbrev pub refusal641 : Chosen641 → Refusal
+refusal641 (Took641 _) = Ends EntryOutOfRange
+refusal641 (No641 r) = r
+
+abbrev outcome641 : Chosen641 → Outcome (Unit {0}) Row641
+outcome641 (Took641 r) = Chosen r
+outcome641 (No641 r) = Refused r tt
+
+back641 : (o : Outcome (Unit {0}) Row641) → o ≡ outcome641 (chosen641 o)
+back641 (Chosen r) = refl
+back641 (Refused r u) = refl
+
+pub took641 : (o : Outcome (Unit {0}) Row641) {c : Chosen641} {r : Row641} → c ≡ chosen641 o → c ≡ Took641 r → o ≡ Chosen r
+took641 o e k = back641 o ∙ ap outcome641 (sym e ∙ k)
+
+pub no641 : (o : Outcome (Unit {0}) Row641) {c : Chosen641} {w : Refusal} → c ≡ chosen641 o → c ≡ No641 w → o ≡ Refused w tt
+no641 o e k = back641 o ∙ ap outcome641 (sym e ∙ k)
+
+abbrev pub refusal642 : Chosen642 → Refusal
+refusal642 (Took642 _) = Ends EntryOutOfRange
+refusal642 (No642 r) = r
+
+abbrev outcome642 : Chosen642 → Outcome (Unit {0}) Row642
+outcome642 (Took642 r) = Chosen r
+outcome642 (No642 r) = Refused r tt
+
+back642 : (o : Outcome (Unit {0}) Row642) → o ≡ outcome642 (chosen642 o)
+back642 (Chosen r) = refl
+back642 (Refused r u) = refl
+
+pub took642 : (o : Outcome (Unit {0}) Row642) {c : Chosen642} {r : Row642} → c ≡ chosen642 o → c ≡ Took642 r → o ≡ Chosen r
+took642 o e k = back642 o ∙ ap outcome642 (sym e ∙ k)
+
+pub no642 : (o : Outcome (Unit {0}) Row642) {c : Chosen642} {w : Refusal} → c ≡ chosen642 o → c ≡ No642 w → o ≡ Refused w tt
+no642 o e k = back642 o ∙ ap outcome642 (sym e ∙ k)
+
+abbrev pub refusal643 : Chosen643 → Refusal
+refusal643 (Took643 _) = Ends EntryOutOfRange
+refusal643 (No643 r) = r
+
+abbrev outcome643 : Chosen643 → Outcome (Unit {0}) Row643
+outcome643 (Took643 r) = Chosen r
+outcome643 (No643 r) = Refused r tt
+
+back643 : (o : Outcome (Unit {0}) Row643) → o ≡ outcome643 (chosen643 o)
+back643 (Chosen r) = refl
+back643 (Refused r u) = refl
+
+pub took643 : (o : Outcome (Unit {0}) Row643) {c : Chosen643} {r : Row643} → c ≡ chosen643 o → c ≡ Took643 r → o ≡ Chosen r
+took643 o e k = back643 o ∙ ap outcome643 (sym e ∙ k)
+
+pub no643 : (o : Outcome (Unit {0}) Row643) {c : Chosen643} {w : Refusal} → c ≡ chosen643 o → c ≡ No643 w → o ≡ Refused w tt
+no643 o e k = back643 o ∙ ap outcome643 (sym e ∙ k)
+
+abbrev pub refusal649 : Chosen649 → Refusal
+refusal649 (Took649 _) = Ends EntryOutOfRange
+refusal649 (No649 r) = r
+
+abbrev outcome649 : Chosen649 → Outcome (Unit {0}) Row649
+outcome649 (Took649 r) = Chosen r
+outcome649 (No649 r) = Refused r tt
+
+back649 : (o : Outcome (Unit {0}) Row649) → o ≡ outcome649 (chosen649 o)
+back649 (Chosen r) = refl
+back649 (Refused r u) = refl
+
+pub took649 : (o : Outcome (Unit {0}) Row649) {c : Chosen649} {r : Row649} → c ≡ chosen649 o → c ≡ Took649 r → o ≡ Chosen r
+took649 o e k = back649 o ∙ ap outcome649 (sym e ∙ k)
+
+pub no649 : (o : Outcome (Unit {0}) Row649) {c : Chosen649} {w : Refusal} → c ≡ chosen649 o → c ≡ No649 w → o ≡ Refused w tt
+no649 o e k = back649 o ∙ ap outcome649 (sym e ∙ k)

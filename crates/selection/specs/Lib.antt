@@ -5,3 +5,4 @@ pub mod Places
 pub mod Filters
 pub mod Remembered
 pub mod Narrowed
+pub mod Selecting

@@ -9,13 +9,13 @@ use Rattle.selection.proofs.dose_row.by_age.Tie as tie
 
 returns : tie.Need-returns
 unfolding by-age
-returns c = 
+returns c =
     let a = c .before .before .before .before .args in
     narrow-none (c .before .before .of-age .ensures) (datum (a .e)) NoRowForAge (c .if1 .taken)
 
 returns-2 : tie.Need-returns-2
 unfolding by-age
-returns-2 c = 
+returns-2 c =
     let a = c .before .before .before .before .args in
     let k = c .before .before .of-age .ensures in
     (narrow-some k (datum (a .e)) NoRowForAge (c .if1 .left), k .valid)

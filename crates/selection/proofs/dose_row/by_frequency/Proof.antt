@@ -13,17 +13,17 @@ use Rattle.selection.proofs.dose_row.by_frequency.Statement.{statement}
 use Rattle.selection.proofs.dose_row.by_frequency.Tie as tie
 
 by-exact-requires : tie.Need-by-exact-requires
-by-exact-requires c κs = 
+by-exact-requires c κs =
     let m = rw (c .before .place .given .1) at (c .before .before .before .search .ensures) in
     (c .before .before .before .before .before .before .pre, omega (arith, m .0), m .2)
 
 by-twin-requires : tie.Need-by-twin-requires
-by-twin-requires c κs = 
+by-twin-requires c κs =
     let m = rw (c .before .place2 .given .1) at (c .before .before .before .search .ensures) in
     (c .before .before .before .before .before .before .pre, omega (arith, m .1), m .3)
 
 returns : tie.Need-returns
-returns c = 
+returns c =
     let a = c .before .before .before .before .before .before .before .args in
     let f = c .before .before .before .before .before .entered .ensures in
     let m = rw (c .before .before .place .given .1) at (c .before .before .before .before .search .ensures) in
@@ -32,7 +32,7 @@ returns c =
     (frequency-exact (datum (a .e)) (a .e) (remembered (now (a .t643)) (a .set)) hit ∙ ap Chosen (sym (k .same)), k .valid)
 
 returns-2 : tie.Need-returns-2
-returns-2 c = 
+returns-2 c =
     let a = c .before .before .before .before .before .before .before .args in
     let f = c .before .before .before .before .before .entered .ensures in
     let m = rw (c .before .before .place2 .given .1) at (c .before .before .before .before .search .ensures) in
@@ -42,7 +42,7 @@ returns-2 c =
     (frequency-twin (datum (a .e)) (a .e) (remembered (now (a .t643)) (a .set)) miss hit ∙ ap Chosen (sym (k .same)), k .valid)
 
 returns-3 : tie.Need-returns-3
-returns-3 c = 
+returns-3 c =
     let a = c .before .before .before .before .before .before .args in
     let f = c .before .before .before .before .entered .ensures in
     let m = rw (c .before .enum-told .given .1) at (c .before .before .before .search .ensures) in

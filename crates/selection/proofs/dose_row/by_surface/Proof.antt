@@ -15,31 +15,33 @@ use Rattle.selection.proofs.dose_row.by_surface.Tie as tie
 
 returns : tie.Need-returns
 unfolding by-surface
-returns c = 
+returns c =
     let b = c .before .before .before in
     let a = b .args in
     (measure-unneeded (datum (a .e)) Surface NoRowForSurface surface-bounds (remembered (now (a .t643)) (a .set)) (sym (c .before .any .ensures) ∙ not-true _ (c .if1 .taken)), b .pre)
 
 returns-2 : tie.Need-returns-2
 unfolding by-surface
-returns-2 c = 
+returns-2 c =
     let a = c .before .before .before .before .before .args in
     measure-blank (datum (a .e)) Surface NoRowForSurface surface-bounds (remembered (now (a .t643)) (a .set)) (sym (c .before .before .before .any .ensures) ∙ not-false _ (c .before .before .if1 .left)) (c .enum-told .given .1)
 
 returns-3 : tie.Need-returns-3
 unfolding by-surface
-returns-3 c = 
+returns-3 c =
     let a = c .before .before .before .before .before .before .before .before .before .args in
     measure-given (datum (a .e)) Surface NoRowForSurface surface-bounds (remembered (now (a .t643)) (a .set)) (sym (c .before .before .before .before .before .before .before .any .ensures) ∙ not-false _ (c .before .before .before .before .before .before .if1 .left)) (c .before .before .before .before .surface .given .1)
     ∙ narrow-none (c .before .before .by-surface .ensures) (datum (a .e)) NoRowForSurface (c .if2 .taken)
 
 returns-4 : tie.Need-returns-4
 unfolding by-surface
-returns-4 c = 
+returns-4 c =
     let a = c .before .before .before .before .before .before .before .before .before .args in
-    let k = c .before .before .by-surface .ensures in
-    (measure-given (datum (a .e)) Surface NoRowForSurface surface-bounds (remembered (now (a .t643)) (a .set)) (sym (c .before .before .before .before .before .before .before .any .ensures) ∙ not-false _ (c .before .before .before .before .before .before .if1 .left)) (c .before .before .before .before .surface .given .1)
-    ∙ narrow-some k (datum (a .e)) NoRowForSurface (c .if2 .left), k .valid)
+    let k = c .before .before .by-surface .ensures in (
+      measure-given (datum (a .e)) Surface NoRowForSurface surface-bounds (remembered (now (a .t643)) (a .set)) (sym (c .before .before .before .before .before .before .before .any .ensures) ∙ not-false _ (c .before .before .before .before .before .before .if1 .left)) (c .before .before .before .before .surface .given .1)
+          ∙ narrow-some k (datum (a .e)) NoRowForSurface (c .if2 .left),
+      k .valid,
+    )
 
 pub by-surface-spec : {M : Type 1} → statement M
 by-surface-spec = tie.close (tie.spec (λ c κs. search needs) returns (λ c. search needs) (λ c. search needs) returns-2 (λ c κs. search needs) returns-3 returns-4)

@@ -14,7 +14,7 @@ use Rattle.selection.proofs.dose_row.dose_row.Tie as tie
 
 returns : tie.Need-returns
 unfolding dose-row
-returns c = 
+returns c =
     let a = c .before .before .before .args in
     let d = datum (a .e) in
     let t = among (of-category (a .category)) (rows643 (now (a .t643))) in
@@ -22,7 +22,7 @@ returns c =
 
 returns-2 : tie.Need-returns-2
 unfolding dose-row
-returns-2 c = 
+returns-2 c =
     let a = c .before .before .before .before .before .before .before .args in
     let d = datum (a .e) in
     let t = among (of-category (a .category)) (rows643 (now (a .t643))) in
@@ -35,7 +35,7 @@ by-frequency-requires c κs = (rw (c .enum-told .given .1) at (c .before .before
 
 returns-3 : tie.Need-returns-3
 unfolding dose-row
-returns-3 c = 
+returns-3 c =
     let a = c .before .before .before .before .before .before .before .before .before .before .args in
     let d = datum (a .e) in
     let t = among (of-category (a .category)) (rows643 (now (a .t643))) in
@@ -49,7 +49,7 @@ by-weight-requires c κs = (rw (c .enum-told3 .given .1) at (c .before .before .
 
 returns-4 : tie.Need-returns-4
 unfolding dose-row
-returns-4 c = 
+returns-4 c =
     let a = c .before .before .before .before .before .before .before .before .before .before .before .before .before .args in
     let d = datum (a .e) in
     let t = among (of-category (a .category)) (rows643 (now (a .t643))) in
@@ -64,7 +64,7 @@ by-surface-requires c κs = (rw (c .enum-told5 .given .1) at (c .before .before 
 
 returns-5 : tie.Need-returns-5
 unfolding dose-row
-returns-5 c = 
+returns-5 c =
     let a = c .before .before .before .before .before .before .before .before .before .before .before .before .before .before .before .before .args in
     let d = datum (a .e) in
     let t = among (of-category (a .category)) (rows643 (now (a .t643))) in
@@ -80,7 +80,7 @@ one-row-requires c κs = (rw (c .enum-told7 .given .1) at (c .before .before .by
 
 returns-6 : tie.Need-returns-6
 unfolding dose-row
-returns-6 c = 
+returns-6 c =
     let a = c .before .before .before .before .before .before .before .before .before .before .before .before .before .before .before .before .args in
     let d = datum (a .e) in
     let t = among (of-category (a .category)) (rows643 (now (a .t643))) in

@@ -9,18 +9,18 @@ use Rattle.selection.proofs.dose_row.no_frequency.Statement.{statement}
 use Rattle.selection.proofs.dose_row.no_frequency.Tie as tie
 
 returns : tie.Need-returns
-returns c = 
+returns c =
     let a = c .before .before .before .before .args in
     count-differs (datum (a .e)) (a .e) (remembered (now (a .t643)) (a .set)) (rw (c .before .before .entered .ensures) at (sym (c .before .any .ensures) ∙ c .if1 .taken))
 
 returns-2 : tie.Need-returns-2
-returns-2 c = 
+returns-2 c =
     let a = c .before .before .before .before .before .before .args in
     let f = c .before .before .before .before .entered .ensures in
     unit-differs (datum (a .e)) (a .e) (remembered (now (a .t643)) (a .set)) (rw f at (sym (c .before .before .before .any .ensures) ∙ c .before .before .if1 .left)) (rw f at (sym (c .before .any2 .ensures) ∙ c .if2 .taken))
 
 returns-3 : tie.Need-returns-3
-returns-3 c = 
+returns-3 c =
     let a = c .before .before .before .before .before .before .args in
     let f = c .before .before .before .before .entered .ensures in
     both-differ (datum (a .e)) (a .e) (remembered (now (a .t643)) (a .set)) (rw f at (sym (c .before .before .before .any .ensures) ∙ c .before .before .if1 .left)) (rw f at (sym (c .before .any2 .ensures) ∙ c .if2 .left))

@@ -14,12 +14,12 @@ row-requires : tie.Need-row-requires
 row-requires c κs = c .before .before .before .before .pre .below 0 (omega arith)
 
 returns : tie.Need-returns
-returns c = 
+returns c =
     let a = c .before .before .before .before .before .args in
     sym (ap chosen643 (row-one (datum (a .e)) (now (a .t643)) (a .set) (c .before .before .if1 .taken)) ∙ ap Row (sym (c .row .ensures)))
 
 returns-2 : tie.Need-returns-2
-returns-2 c = 
+returns-2 c =
     let a = c .before .before .before .args in
     sym (ap chosen643 (row-several (datum (a .e)) (now (a .t643)) (a .set) (c .if1 .left)))
 

@@ -1,0 +1,10 @@
+-- Assumes nothing.
+use borrow.Author.Needs.{needs}
+use Rattle.selection.proofs.Chosen643.refusal.Statement.{statement}
+use Rattle.selection.proofs.Chosen643.refusal.Tie as tie
+
+returns : tie.Need-returns
+returns c = rw (c .enum-told .given .1)
+
+pub refusal-spec : {M : Type 1} → statement M
+refusal-spec = tie.close (tie.spec (λ c. search needs) (λ c. search needs) returns (λ c. search needs))
