@@ -16,7 +16,7 @@ use Rattle.selection.proofs.select.Tie as tie
 
 returns : tie.Need-returns
 unfolding spelled lent rows
-returns c = 
+returns c =
     let a = c .before .before .before .before .before .before .before .before .before .before .args in
     let d = datum (a .e) in
     let q = prescription (a .e) in
@@ -26,7 +26,7 @@ returns c =
 
 returns-2 : tie.Need-returns-2
 unfolding spelled lent rows
-returns-2 c = 
+returns-2 c =
     let a = c .before .before .before .before .before .before .before .before .before .before .before .before .before .before .args in
     let d = datum (a .e) in
     let q = prescription (a .e) in
@@ -37,7 +37,7 @@ returns-2 c =
 
 returns-3 : tie.Need-returns-3
 unfolding spelled lent rows
-returns-3 c = 
+returns-3 c =
     let a = c .before .before .before .before .before .before .before .before .before .before .before .before .before .before .before .before .before .before .args in
     let d = datum (a .e) in
     let q = prescription (a .e) in
@@ -49,7 +49,7 @@ returns-3 c =
 
 returns-4 : tie.Need-returns-4
 unfolding spelled lent rows
-returns-4 c = 
+returns-4 c =
     let a = c .before .before .before .before .before .before .before .before .before .before .before .before .before .before .before .before .before .before .before .before .before .before .args in
     let d = datum (a .e) in
     let q = prescription (a .e) in
@@ -62,7 +62,7 @@ returns-4 c =
 
 returns-5 : tie.Need-returns-5
 unfolding spelled lent rows
-returns-5 c = 
+returns-5 c =
     let a = c .before .before .before .before .before .before .before .before .before .before .before .before .before .before .before .before .before .before .before .before .before .before .before .before .before .before .args in
     let d = datum (a .e) in
     let q = prescription (a .e) in
@@ -76,7 +76,7 @@ returns-5 c =
 
 returns-6 : tie.Need-returns-6
 unfolding spelled lent rows
-returns-6 c = 
+returns-6 c =
     let a = c .before .before .before .before .before .before .before .before .before .before .before .before .before .before .before .before .before .before .before .before .before .before .before .before .before .before .before .before .before .before .args in
     let d = datum (a .e) in
     let q = prescription (a .e) in
@@ -91,7 +91,7 @@ returns-6 c =
 
 returns-7 : tie.Need-returns-7
 unfolding spelled lent rows
-returns-7 c = 
+returns-7 c =
     let a = c .before .before .before .before .before .before .before .before .before .before .before .before .before .before .before .before .before .before .before .before .before .before .before .before .before .before .before .before .before .before .args in
     let d = datum (a .e) in
     let q = prescription (a .e) in

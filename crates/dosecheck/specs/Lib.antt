@@ -1,0 +1,4 @@
+pub mod Entries
+pub mod Soundly
+pub mod Lines
+pub mod Whole
