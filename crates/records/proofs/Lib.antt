@@ -1,0 +1,15 @@
+pub mod Bools
+pub mod Chars
+pub mod Numbers
+pub mod SaidDigits
+pub mod Stores
+pub mod Spelling
+pub mod PartLaws
+pub mod LayoutLaws
+pub mod Placed
+pub mod ReadsBack
+pub mod WritesBack
+pub mod SameSets
+pub mod RefusalsLeave
+pub mod Bounds
+pub mod Examples

@@ -1,0 +1,122 @@
+-- A file's record as a list of parts, and what reading and writing such a record mean, whatever the file. Assumes nothing.
+use Prim.Native.Nat.{ℕ, _+_, _^_}
+use mathlib.Core.Bool.{Bool, true, _&&_}
+use mathlib.Core.List.{List, [], _∷_, _++_}
+use lib.ListN.{length, take, drop}
+use lib.Dec.{leb, ltb, eqb}
+use Rattle.records.specs.Digits.{chars, unless, same, digits, digitsOnly, horner}
+use Rattle.records.specs.declared.ReadRefusal.{ReadRefusal}
+use Rattle.records.specs.declared.ReadRefusal.the-variants.{Length, Fixed, Digit, Mutation}
+use Rattle.records.specs.declared.Written.{Written}
+use Rattle.records.specs.declared.Written.the-variants.{Done, TooWide, NoRoom}
+
+-- fixed text; the mutation digit, 0 to 3; a number of so many digits
+pub data Part : Type 0 where
+  text : List ℕ → Part
+  mutation : Part
+  number : ℕ → Part
+
+abbrev pub width : Part → ℕ
+width (text t) = length t
+width mutation = 1
+width (number k) = k
+
+-- what a part says: fixed text says nothing
+abbrev pub Value : Part → Type 0
+Value (text t) = Unit {0}
+Value mutation = ℕ
+Value (number k) = ℕ
+
+abbrev pub Values : List Part → Type 0
+Values [] = Unit {0}
+Values (p ∷ ps) = Value p × Values ps
+
+abbrev pub total : List Part → ℕ
+total [] = 0
+total (p ∷ ps) = width p + total ps
+
+-- 202: a fixed part differs
+abbrev pub fixedPart : Part → List ℕ → Bool
+fixedPart (text t) c = same t c
+fixedPart mutation c = true
+fixedPart (number k) c = true
+
+-- 203: a digit is expected and absent
+abbrev pub digitPart : Part → List ℕ → Bool
+digitPart (text t) c = true
+digitPart mutation c = digitsOnly c
+digitPart (number k) c = digitsOnly c
+
+-- 204: the mutation digit is above 3
+abbrev pub mutationPart : Part → List ℕ → Bool
+mutationPart (text t) c = true
+mutationPart mutation c = leb (horner 0 c) 3
+mutationPart (number k) c = true
+
+-- every part, from the place at on, passes the test
+unfoldable pub every : (Part → List ℕ → Bool) → List Part → ℕ → List ℕ → Bool
+every test [] at s = true
+every test (p ∷ ps) at s = test p (chars s at (width p)) && every test ps (at + width p) s
+
+abbrev pub value : (p : Part) → List ℕ → Value p
+value (text t) c = tt
+value mutation c = horner 0 c
+value (number k) c = horner 0 c
+
+unfoldable pub values : (ps : List Part) → ℕ → List ℕ → Values ps
+values [] at s = tt
+values (p ∷ ps) at s = (value p (chars s at (width p)), values ps (at + width p) s)
+
+pub data Scanned (ps : List Part) : Type 0 where
+  said : Values ps → Scanned ps
+  refused : ReadRefusal → Scanned ps
+
+unfoldable pub numbers : (ps : List Part) → List ℕ → Scanned ps
+numbers ps s =
+    unless (every digitPart ps 0 s) (refused Digit)
+    (unless (every mutationPart ps 0 s) (refused Mutation)
+    (said (values ps 0 s)))
+
+-- reading a record: the tests in document 01's order, all fixed parts before any digit
+unfoldable pub scan : (ps : List Part) → List ℕ → Scanned ps
+scan ps s =
+    unless (eqb (length s) (total ps)) (refused Length)
+    (unless (every fixedPart ps 0 s) (refused Fixed)
+    (numbers ps s))
+
+-- 205: a number is too wide, or the mutation digit above 3
+abbrev pub fitsPart : (p : Part) → Value p → Bool
+fitsPart (text t) v = true
+fitsPart mutation v = leb v 3
+fitsPart (number k) v = ltb v (10 ^ k)
+
+unfoldable pub fits : (ps : List Part) → Values ps → Bool
+fits [] v = true
+fits (p ∷ ps) v = fitsPart p (v .0) && fits ps (v .1)
+
+abbrev pub spelt : (p : Part) → Value p → List ℕ
+spelt (text t) v = t
+spelt mutation v = digits 1 v
+spelt (number k) v = digits k v
+
+-- the characters that a record writes
+unfoldable pub spell : (ps : List Part) → Values ps → List ℕ
+spell [] v = []
+spell (p ∷ ps) v = spelt p (v .0) ++ spell ps (v .1)
+
+-- the answer to writing at a place of a buffer with that room: 205 before 206
+unfoldable pub answer : (ps : List Part) → Values ps → ℕ → ℕ → Written
+answer ps v at room =
+    unless (fits ps v) TooWide
+    (unless (leb (at + total ps) room) NoRoom
+    Done)
+
+-- the buffer after that answer: the new characters at the place and nothing else touched, or all as it was
+abbrev pub after : Written → List ℕ → ℕ → List ℕ → List ℕ
+after Done old at new = take at old ++ (new ++ drop (at + length new) old)
+after TooWide old at new = old
+after NoRoom old at new = old
+
+-- what writing leaves in the buffer
+unfoldable pub leaving : (ps : List Part) → Values ps → ℕ → List ℕ → List ℕ
+leaving ps v at old = after (answer ps v at (length old)) old at (spell ps v)
