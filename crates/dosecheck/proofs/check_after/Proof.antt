@@ -23,14 +23,14 @@ use Rattle.dosecheck.proofs.check_after.Statement.{statement}
 use Rattle.dosecheck.proofs.check_after.Tie as tie
 
 returns : tie.Need-returns
-returns c = 
+returns c =
     let g = c .before .before .before .before .before .before .before .before .before .before .args in
     let b : Lents = record { b640 = now (g .t640); b641 = now (g .t641); b642 = now (g .t642); b643 = now (g .t643); b649 = now (g .t649); b730 = now (g .t730) } in
     let t = spelled b in
     c .refused .ensures ∙ ap (refused (Ends EntryOutOfRange)) (c .before .nothing .ensures) ∙ sym (ends-at-125 t (g .e) (sym (c .before .before .before .in-range .ensures) ∙ not-true _ (c .before .before .if1 .taken)))
 
 returns-2 : tie.Need-returns-2
-returns-2 c = 
+returns-2 c =
     let g = c .before .before .before .before .before .before .before .before .before .before .before .before .before .args in
     let b : Lents = record { b640 = now (g .t640); b641 = now (g .t641); b642 = now (g .t642); b643 = now (g .t643); b649 = now (g .t649); b730 = now (g .t730) } in
     let t = spelled b in
@@ -39,7 +39,7 @@ returns-2 c =
 
 returns-3 : tie.Need-returns-3
 unfolding spelled lent rows
-returns-3 c = 
+returns-3 c =
     let g = c .before .before .before .before .before .before .before .before .before .before .before .before .before .before .before .before .args in
     let b : Lents = record { b640 = now (g .t640); b641 = now (g .t641); b642 = now (g .t642); b643 = now (g .t643); b649 = now (g .t649); b730 = now (g .t730) } in
     let t = spelled b in
@@ -49,7 +49,7 @@ returns-3 c =
 
 returns-4 : tie.Need-returns-4
 unfolding spelled lent rows
-returns-4 c = 
+returns-4 c =
     let g = c .before .before .before .before .before .before .before .before .before .before .before .before .before .before .before .before .before .before .before .before .args in
     let b : Lents = record { b640 = now (g .t640); b641 = now (g .t641); b642 = now (g .t642); b643 = now (g .t643); b649 = now (g .t649); b730 = now (g .t730) } in
     let t = spelled b in
@@ -59,7 +59,7 @@ returns-4 c =
     c .refused4 .ensures ∙ ap₂ refused (c .before .before .refusal-of-rule .ensures ∙ ap refusal-rule (c .before .before .before .enum-told4 .given .1)) (c .before .reached-of-rule .ensures ∙ ap reached-rule (c .before .before .before .enum-told4 .given .1)) ∙ sym (ends-at-selection t (g .e) fine (sym (c .before .before .before .before .before .before .before .before .before .before .before .before .before .before .before .before .before .before .before .before .pre) ∙ c .before .before .before .before .before .before .before .before .before .before .enum-told .given .1) h2 no)
 
 compare-requires : tie.Need-compare-requires
-compare-requires c κs = 
+compare-requires c κs =
     let g = c .before .before .before .before .before .before .before .before .before .before .before .before .before .before .before .before .before .before .before .before .args in
     let b : Lents = record { b640 = now (g .t640); b641 = now (g .t641); b642 = now (g .t642); b643 = now (g .t643); b649 = now (g .t649); b730 = now (g .t730) } in
     let t = spelled b in
@@ -70,7 +70,7 @@ compare-requires c κs =
 
 returns-5 : tie.Need-returns-5
 unfolding spelled lent rows
-returns-5 c = 
+returns-5 c =
     let g = c .before .before .before .before .before .before .before .before .before .before .before .before .before .before .before .before .before .before .before .before .before .before .args in
     let b : Lents = record { b640 = now (g .t640); b641 = now (g .t641); b642 = now (g .t642); b643 = now (g .t643); b649 = now (g .t649); b730 = now (g .t730) } in
     let t = spelled b in
