@@ -1,0 +1,16 @@
+pub mod Cases
+pub mod Decimal
+pub mod Sets
+pub mod Pieces
+pub mod Longest
+pub mod GoOn
+pub mod Run
+pub mod Ends
+pub mod Shrunk
+pub mod Kept
+pub mod Whole
+pub mod Finishing
+pub mod Feeding
+pub mod Callers
+pub mod Listed
+pub mod Examples

@@ -1,0 +1,5 @@
+pub mod Line
+pub mod Put
+pub mod Records
+pub mod Machine
+pub mod Feeding
