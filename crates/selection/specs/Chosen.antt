@@ -7,7 +7,7 @@ use Rattle.guideline.specs.declared.Row642.{Row642}
 use Rattle.guideline.specs.declared.Row643.{Row643}
 use Rattle.guideline.specs.declared.Row649.{Row649}
 use Rattle.guideline.specs.declared.Reason.{Reason}
-use Rattle.guideline.specs.declared.Reason.the-variants.{EntryOutOfRange, RowsSeveral}
+use Rattle.guideline.specs.declared.Reason.the-variants.{EntryOutOfRange, NoSetting, SettingSeveral, RowsSeveral}
 use Rattle.guideline.specs.declared.Refusal.{Refusal}
 use Rattle.guideline.specs.declared.Refusal.the-variants.{Ends}
 use Rattle.guideline.specs.Ask.{Outcome, Chosen, Refused}
@@ -103,6 +103,12 @@ abbrev pub hits642 : Found642 → Hits Row642
 hits642 Nothing642 = None
 hits642 (One642 r) = One r
 hits642 (Many642 n) = Many n
+
+-- "none 113, several 123"
+abbrev pub by-found642 : Found642 → Chosen642
+by-found642 Nothing642 = No642 (Ends NoSetting)
+by-found642 (One642 r) = Took642 r
+by-found642 (Many642 n) = No642 (Ends SettingSeveral)
 
 pub hits-found642 : (x : Hits Row642) → hits642 (found642 x) ≡ x
 hits-found642 None = refl

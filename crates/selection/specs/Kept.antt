@@ -7,12 +7,16 @@ use Rattle.guideline.specs.declared.Row642.{Row642}
 use Rattle.guideline.specs.declared.Setting.{Setting}
 use Rattle.guideline.specs.declared.Entry.{Entry}
 use Rattle.guideline.specs.declared.Reason.the-variants.{NoSetting, SettingSeveral}
-use Rattle.guideline.specs.Ask.{Step}
+use Rattle.guideline.specs.declared.Datum.{Datum}
+use Rattle.guideline.specs.declared.Question.{Question}
+use Rattle.guideline.specs.Ask.{run}
 use Rattle.guideline.specs.Values.{intensive-care, all-care, no-reason, whole-reason, Q-general, no-route, setting-entered, in-all-care, for-whole-reason, for-Q-general, by-no-route}
-use Rattle.guideline.specs.Table.{Table, Hits, some, any, among, prefer, every}
-use Rattle.guideline.specs.Steps.{one, of-basis, of-care, of-reason, of-route, keep-care, keep-reason, keep-route, setting}
+use Rattle.guideline.specs.Table.{Table, Hits, None, One, Many, some, any, among, prefer, every}
+use Rattle.guideline.specs.Steps.{one, choose, refuse, of-basis, of-care, of-reason, of-route, keep-care, keep-reason, keep-route, setting}
 use Rattle.guideline.specs.Check.{prescription}
+use Rattle.tables.specs.Lents.{found642}
 use Rattle.tables.specs.Tests.{test642}
+use Rattle.selection.specs.Chosen.{chosen642, by-found642}
 use Rattle.tables.specs.declared.t642.Test642.the-variants.{Care, Reason, Route}
 
 unfoldable pub care-kept : Table Row642 → ℕ → Setting → Setting
@@ -86,7 +90,7 @@ module _ (t : Table Row642) (basis : ℕ) where
       go false false true = refl
       go false false false = refl
 
-  pub setting-kept : (e : Entry) → setting t (prescription e) basis ≡ one (t (test642 (Route basis (route-kept t basis (reason-kept t basis (care-kept t basis (setting-entered e))))))) NoSetting SettingSeveral
+  setting-kept : (e : Entry) → setting t (prescription e) basis ≡ one (t (test642 (Route basis (route-kept t basis (reason-kept t basis (care-kept t basis (setting-entered e))))))) NoSetting SettingSeveral
   unfolding setting
   setting-kept e =
       ap (λ (h : Hits Row642). one h NoSetting SettingSeveral)
@@ -105,3 +109,19 @@ module _ (t : Table Row642) (basis : ℕ) where
 
       r : Setting
       r = reason-kept t basis c
+
+  -- the entered route is asked for first; where it has no row, route 0
+  pub setting-entered-route : (e : Entry) {h : Hits Row642} → t (test642 (Route basis (reason-kept t basis (care-kept t basis (setting-entered e))))) ≡ h → some h ≡ true → setting t (prescription e) basis ≡ one h NoSetting SettingSeveral
+  unfolding route-kept
+  setting-entered-route e found some-row = setting-kept e ∙ rw (found, some-row, found)
+
+  pub setting-no-route : (e : Entry) → t (test642 (Route basis (reason-kept t basis (care-kept t basis (setting-entered e))))) ≡ None → setting t (prescription e) basis ≡ one (t (test642 (Route basis (by-no-route (reason-kept t basis (care-kept t basis (setting-entered e))))))) NoSetting SettingSeveral
+  unfolding route-kept
+  setting-no-route e none = setting-kept e ∙ rw none
+
+-- what the code says of a table's answer is what the end of the step's plan says of it
+pub one-setting : (d : Question → Datum) (h : Hits Row642) → by-found642 (found642 h) ≡ chosen642 (run d (one h NoSetting SettingSeveral))
+unfolding one choose refuse
+one-setting d None = refl
+one-setting d (One r) = refl
+one-setting d (Many n) = refl

@@ -47,10 +47,10 @@ pub struct Filtered {
 fn is_aged(r: Row643, category: u32, age: u32) -> bool
     ensures { λ b. ⌜ b ≡ aged category age r ⌝ }
 {
-    guideline::both(
-        r.gpdcat == category,
-        filter::enclose_months(t643::age_bounds(r), age),
-    )
+    if r.gpdcat != category {
+        return false;
+    }
+    filter::enclose_months(t643::age_bounds(r), age)
 }
 
 impl Remembered {

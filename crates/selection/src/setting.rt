@@ -4,8 +4,8 @@ ghost use Rattle.guideline.specs.Ask.{run};
 ghost use Rattle.guideline.specs.Check.{datum, prescription};
 ghost use Rattle.guideline.specs.Steps.{setting};
 ghost use Rattle.tables.specs.Lents.{rows642};
-ghost use Rattle.selection.specs.Chosen.{chosen642};
-ghost use Rattle.selection.specs.Kept.{care-kept, reason-kept, route-kept};
+ghost use Rattle.selection.specs.Chosen.{chosen642, by-found642};
+ghost use Rattle.selection.specs.Kept.{care-kept, reason-kept};
 use crate::Chosen642;
 use guideline::Entry;
 use guideline::Reason;
@@ -45,27 +45,27 @@ fn keep_reason(t642: &[u8], basis: u32, s: Setting) -> Setting
     s.q_general()
 }
 
-// "Keep the entered route; if none, route 0."
-fn keep_route(t642: &[u8], basis: u32, s: Setting) -> Setting
-    ensures { λ r. ⌜ r ≡ route-kept (rows642 (now (t642 .entry))) basis s ⌝ }
+// "At the end none 113, several 123."
+fn chosen(found: Found642) -> Chosen642
+    ensures { λ r. ⌜ r ≡ by-found642 found ⌝ }
 {
-    if t642::any(t642, Test642::Route(basis, s)) {
-        return s;
+    match found {
+        Found642::Nothing => Chosen642::Refused(Refusal::Ends(Reason::NoSetting)),
+        Found642::One(row) => Chosen642::Row(row),
+        Found642::Many(_) => Chosen642::Refused(Refusal::Ends(Reason::SettingSeveral)),
     }
-    s.no_route()
 }
 
-// "At the end none 113, several 123."
+// "Keep the entered route; if none, route 0."
 pub fn setting(t642: &[u8], e: Entry, basis: u32) -> Chosen642
     ensures { λ r. ⌜ r ≡ chosen642 (run (datum e) (setting (rows642 (now (t642 .entry))) (prescription e) basis)) ⌝ }
 {
     let entered = Setting::entered(e);
     let in_care = keep_care(t642, basis, entered);
     let for_reason = keep_reason(t642, basis, in_care);
-    let by_route = keep_route(t642, basis, for_reason);
-    let found = t642::ask(t642, Test642::Route(basis, by_route));
-    match found {
-        Found642::Nothing => Chosen642::Refused(Refusal::Ends(Reason::NoSetting)),
+    let by_route = t642::ask(t642, Test642::Route(basis, for_reason));
+    match by_route {
+        Found642::Nothing => chosen(t642::ask(t642, Test642::Route(basis, for_reason.no_route()))),
         Found642::One(row) => Chosen642::Row(row),
         Found642::Many(_) => Chosen642::Refused(Refusal::Ends(Reason::SettingSeveral)),
     }

@@ -1,8 +1,9 @@
 -- The rows that a lent table spells, and what a question about them is answered.
-use Prim.Native.Nat.{ℕ, suc, zero, _*_, _/_, _<_}
+use Prim.Native.Nat.{ℕ, suc, zero, _*_, _/_, _<_, _≤_}
 use mathlib.Core.Path.{_≡_, refl, sym, _∙_, ap}
 use mathlib.Core.Bool.{Bool, true, false, not}
 use native.Mathlib.Omega.{arith}
+use borrow.Author.Tests.{ne-eqb}
 use lib.Dec.{eqb}
 use lib.ListN.{length}
 use mathlib.Core.List.{List}
@@ -25,7 +26,7 @@ use Rattle.tables.specs.declared.t649.Found649.the-variants.{Nothing as 
 use Rattle.tables.specs.declared.t730.Found730.{Found730}
 use Rattle.tables.specs.declared.t730.Found730.the-variants.{Nothing as Nothing730, One as One730, Many as Many730}
 use Rattle.tables.specs.declared.Tally.{Tally}
-use Rattle.tables.specs.Tally.{tallied, told, hits-tallied, some-told, number-told}
+use Rattle.tables.specs.Tally.{tallied, told, hits-tallied, some-told, number-told, counted-once, Tallying, tallying-all}
 
 -- the rows of a table of w numbers to a row, and the tally of those with a property
 unfoldable pub rows : {A : Type 0} → ℕ → ((ℕ → ℕ) → A) → List ℕ → Table A
@@ -52,6 +53,21 @@ module _ {A : Type 0} (w : ℕ) (read : (ℕ → ℕ) → A) (l : List ℕ) (p :
 
   pub rows-number : {t : Tally} → t ≡ tally-of w read l p → number (rows w read l p) ≡ t .count
   rows-number {t} e = ap number (rows-told e) ∙ number-told (t .count) (read (cell w l (t .last)))
+
+-- a table whose rows are tried one by one: one that is out of range is found, or none is
+module _ {A : Type 0} (w : ℕ) (read : (ℕ → ℕ) → A) (l : List ℕ) (sound : A → Bool) where
+  abbrev unsound-at : ℕ → Bool
+  unsound-at i = not (sound (read (cell w l i)))
+
+  pub found-unsound : (i : ℕ) → i < length l / (w * 4) → sound (read (cell w l i)) ≡ false → not (some (rows w read l (λ r. not (sound r)))) ≡ false
+  found-unsound i below e =
+      rows-none w read l (λ r. not (sound r)) refl
+      ∙ ne-eqb (tallied unsound-at (length l / (w * 4)) .count) 0 (λ z. let k : 0 < tallied unsound-at (length l / (w * 4)) .count = counted-once unsound-at i (length l / (w * 4)) below (ap not e) in let y : tallied unsound-at (length l / (w * 4)) .count ≡ 0 = z in omega arith)
+
+  pub none-unsound : {i : ℕ} → Tallying unsound-at (length l / (w * 4)) i 0 0 → length l / (w * 4) ≤ i → not (some (rows w read l (λ r. not (sound r)))) ≡ true
+  none-unsound k all =
+      rows-none w read l (λ r. not (sound r)) refl
+      ∙ ap (λ (t : Tally). eqb (t .count) 0) (sym (tallying-all unsound-at k all))
 
 -- none, the one, or many, by the count
 pub told-none : {A : Type 0} {n : ℕ} (x : A) → n ≡ 0 → told n x ≡ None

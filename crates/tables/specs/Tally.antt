@@ -5,6 +5,7 @@ use mathlib.Core.Bool.{Bool, true, false, cond, not}
 use mathlib.Core.List.{List, [], _∷_}
 use native.Mathlib.Omega.{arith}
 use native.Mathlib.Numerals.{add-one}
+use native.Mathlib.Decide.{le-ind}
 use borrow.Author.Tests.{ne-eqb}
 use lib.Dec.{eqb}
 use Rattle.guideline.specs.Table.{Hits, None, One, Many, keep, more, hits, some, number}
@@ -105,3 +106,13 @@ pub tallying-all : {rows i count last : ℕ} (h : ℕ → Bool) → Tallying h r
 tallying-all {rows} {i} h k j =
     let e : i ≡ rows = omega arith in
     rw (← e, k .2, k .3)
+
+-- a row with the property is counted
+pub counted-once : (h : ℕ → Bool) (i n : ℕ) → i < n → h i ≡ true → 0 < tallied h n .count
+unfolding tallied
+counted-once h i n below hit =
+    le-ind (λ m. 0 < tallied h m .count) (rw hit (omega arith)) (λ m _ k. go m (h m) k) n below
+  where
+    go : (m : ℕ) (b : Bool) → 0 < tallied h m .count → 0 < counted b m (tallied h m) .count
+    go m true k = omega arith
+    go m false k = k

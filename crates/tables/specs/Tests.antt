@@ -1,5 +1,8 @@
 -- What the code asks of a table: each test as the property of a row that it stands for.
-use mathlib.Core.Bool.{Bool, true, not, _&&_}
+use Prim.Native.Nat.{ℕ}
+use mathlib.Core.Path.{_≡_}
+use mathlib.Core.Bool.{Bool, true, false, not, _&&_}
+use borrow.Author.Tests.{ne-eqb}
 use lib.Dec.{eqb}
 use Rattle.guideline.specs.declared.Row640.{Row640}
 use Rattle.guideline.specs.declared.Row641.{Row641}
@@ -8,14 +11,14 @@ use Rattle.guideline.specs.declared.Row643.{Row643}
 use Rattle.guideline.specs.declared.Row649.{Row649}
 use Rattle.guideline.specs.declared.Row730.{Row730}
 use Rattle.guideline.specs.Table.{every}
-use Rattle.guideline.specs.Rows.{sound640, sound641, sound642, sound643, sound649, sound730}
+use Rattle.guideline.specs.Rows.{sound640, sound643, sound649, sound730}
 use Rattle.guideline.specs.Steps.{unit-row, gpk-row, of-gpk, hpk-level, prk-level, base-level, of-basis, of-care, of-reason, of-route, of-category, rule-row}
 use Rattle.tables.specs.declared.t640.Test640.{Test640}
 use Rattle.tables.specs.declared.t640.Test640.the-variants.{Gpk, Unsound as Unsound640}
 use Rattle.tables.specs.declared.t641.Test641.{Test641}
-use Rattle.tables.specs.declared.t641.Test641.the-variants.{HpkLevel, Hpk, PrkLevel, Prk, BaseLevel, Unsound as Unsound641}
+use Rattle.tables.specs.declared.t641.Test641.the-variants.{HpkLevel, Hpk, PrkLevel, Prk, BaseLevel}
 use Rattle.tables.specs.declared.t642.Test642.{Test642}
-use Rattle.tables.specs.declared.t642.Test642.the-variants.{Care, Reason, Route, Unsound as Unsound642}
+use Rattle.tables.specs.declared.t642.Test642.the-variants.{Care, Reason, Route}
 use Rattle.tables.specs.declared.t643.Test643.{Test643}
 use Rattle.tables.specs.declared.t643.Test643.the-variants.{Category, Unsound as Unsound643}
 use Rattle.tables.specs.declared.t649.Test649.{Test649}
@@ -34,7 +37,6 @@ test641 (Hpk gpk hpk) r = of-gpk gpk r && (hpk-level r && eqb (r .hpkode) hpk)
 test641 (PrkLevel gpk) r = of-gpk gpk r && prk-level r
 test641 (Prk gpk prk) r = of-gpk gpk r && (prk-level r && eqb (r .prkode) prk)
 test641 (BaseLevel gpk) r = of-gpk gpk r && base-level r
-test641 Unsound641 r = not (sound641 r)
 
 -- among the rows of a basis, those of a setting as far as it is settled
 abbrev pub test642 : Test642 → Row642 → Bool
@@ -44,7 +46,33 @@ test642 (Reason basis s) r =
 test642 (Route basis s) r =
     of-basis basis r
     && (of-care (s .care) r && (of-reason (s .reason) (s .icpcto) r && (of-route (s .route) r && every r)))
-test642 Unsound642 r = not (sound642 r)
+
+-- the first number of a row tells whether it can be meant
+abbrev pub key641 : Test641 → ℕ
+key641 (HpkLevel gpk) = gpk
+key641 (Hpk gpk hpk) = gpk
+key641 (PrkLevel gpk) = gpk
+key641 (Prk gpk prk) = gpk
+key641 (BaseLevel gpk) = gpk
+
+abbrev pub key642 : Test642 → ℕ
+key642 (Care basis s) = basis
+key642 (Reason basis s) = basis
+key642 (Route basis s) = basis
+
+pub other-gpk : (test : Test641) (r : Row641) → (r .gpkode ≡ key641 test → ⊥) → test641 test r ≡ false
+unfolding of-gpk
+other-gpk (HpkLevel gpk) r h = rw (ne-eqb (r .gpkode) gpk h)
+other-gpk (Hpk gpk hpk) r h = rw (ne-eqb (r .gpkode) gpk h)
+other-gpk (PrkLevel gpk) r h = rw (ne-eqb (r .gpkode) gpk h)
+other-gpk (Prk gpk prk) r h = rw (ne-eqb (r .gpkode) gpk h)
+other-gpk (BaseLevel gpk) r h = rw (ne-eqb (r .gpkode) gpk h)
+
+pub other-basis : (test : Test642) (r : Row642) → (r .gpdbas ≡ key642 test → ⊥) → test642 test r ≡ false
+unfolding of-basis
+other-basis (Care basis s) r h = rw (ne-eqb (r .gpdbas) basis h)
+other-basis (Reason basis s) r h = rw (ne-eqb (r .gpdbas) basis h)
+other-basis (Route basis s) r h = rw (ne-eqb (r .gpdbas) basis h)
 
 abbrev pub test643 : Test643 → Row643 → Bool
 test643 (Category category) r = of-category category r && every r

@@ -7,7 +7,7 @@ ghost use Rattle.guideline.specs.Rows.{sound641};
 ghost use Rattle.guideline.specs.Table.{some};
 ghost use Rattle.guideline.specs.Steps.{all-rows, hpk-level, prk-level};
 ghost use Rattle.tables.specs.Tally.{tallied};
-ghost use Rattle.tables.specs.Tests.{test641};
+ghost use Rattle.tables.specs.Tests.{test641, key641};
 ghost use Rattle.tables.specs.Lents.{rows641, found641};
 use crate::Tally;
 use guideline::Range;
@@ -25,7 +25,6 @@ pub enum Test641 {
     PrkLevel(u32),
     Prk(u32, u32),
     BaseLevel(u32),
-    Unsound,
 }
 
 pub enum Found641 {
@@ -97,23 +96,39 @@ fn passes(r: Row641, test: Test641) -> bool
             guideline::both(prk_level(r), r.prkode == prk),
         ),
         Test641::BaseLevel(gpk) => guideline::both(r.gpkode == gpk, r.gpdcod == Row641::BASE_LEVEL),
-        Test641::Unsound => !in_range(r),
     }
 }
 
+// The GPK whose rows are asked about.
+fn key(test: Test641) -> u32
+    ensures { λ r. ⌜ r ≡ key641 test ⌝ }
+{
+    match test {
+        Test641::HpkLevel(gpk) => gpk,
+        Test641::Hpk(gpk, _) => gpk,
+        Test641::PrkLevel(gpk) => gpk,
+        Test641::Prk(gpk, _) => gpk,
+        Test641::BaseLevel(gpk) => gpk,
+    }
+}
+
+// Most rows are told by their first number, so the others are not read.
 fn tally(t: &[u8], test: Test641) -> Tally
     ensures { λ r. ⌜ r ≡ tallied (λ i. test641 test (row641 (cell width641 (now (t .entry)) i))) (length (now (t .entry)) / 20) ⌝ }
 {
     let rows = t.len() / ROW;
+    let gpk = key(test);
     let mut count: usize = 0;
     let mut last: usize = 0;
     let mut i: usize = 0;
     while i < rows {
         let here = i;
         i += 1;
-        if passes(row(t, here), test) {
-            count += 1;
-            last = here;
+        if crate::cell(t, WIDTH, here, 0) == gpk {
+            if passes(row(t, here), test) {
+                count += 1;
+                last = here;
+            }
         }
     }
     Tally { count, last }
@@ -144,6 +159,13 @@ pub fn any(t: &[u8], test: Test641) -> bool
 pub fn all_in_range(t: &[u8]) -> bool
     ensures { λ r. ⌜ r ≡ all-rows sound641 (rows641 (now (t .entry))) ⌝ }
 {
-    let tally = tally(t, Test641::Unsound);
-    tally.count == 0
+    let rows = t.len() / ROW;
+    let mut i: usize = 0;
+    while i < rows {
+        if !in_range(row(t, i)) {
+            return false;
+        }
+        i += 1;
+    }
+    true
 }
