@@ -4,7 +4,7 @@ ghost use Prim.Native.Nat.{_/_, _<_, _+_, _*_};
 ghost use lib.ListN.{length};
 ghost use Rattle.guideline.specs.Bytes.{cell, row730, width730};
 ghost use Rattle.guideline.specs.Rows.{sound730};
-ghost use Rattle.guideline.specs.Steps.{all-rows};
+ghost use Rattle.guideline.specs.Steps.{all-rows, unit-row};
 ghost use Rattle.tables.specs.Tally.{tallied};
 ghost use Rattle.tables.specs.Tests.{test730};
 ghost use Rattle.tables.specs.Lents.{rows730, found730};
@@ -67,14 +67,21 @@ fn in_range(r: Row730) -> bool
     )
 }
 
+// Most rows are told by their code, so the other numbers are not read.
+fn is_unit(r: Row730, srtcde: u32, code: u32, unit: u32) -> bool
+    ensures { λ b. ⌜ b ≡ unit-row srtcde code unit r ⌝ }
+{
+    if r.code != code {
+        return false;
+    }
+    guideline::both(r.srtcde == srtcde, r.cdeenh == unit)
+}
+
 fn passes(r: Row730, test: Test730) -> bool
     ensures { λ b. ⌜ b ≡ test730 test r ⌝ }
 {
     match test {
-        Test730::Unit(srtcde, code, unit) => guideline::both(
-            r.srtcde == srtcde,
-            guideline::both(r.code == code, r.cdeenh == unit),
-        ),
+        Test730::Unit(srtcde, code, unit) => is_unit(r, srtcde, code, unit),
         Test730::Unsound => !in_range(r),
     }
 }

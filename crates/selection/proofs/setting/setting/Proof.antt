@@ -15,7 +15,7 @@ use Rattle.selection.proofs.setting.setting.Statement.{statement}
 use Rattle.selection.proofs.setting.setting.Tie as tie
 
 returns : tie.Need-returns
-returns c = 
+returns c =
     let a = c .before .before .before .before .before .before .before .before .before .before .args in
     let t = rows642 (now (a .t642)) in
     let kept = rw (c .before .before .before .before .before .before .before .keep-care .ensures, c .before .before .before .before .before .before .before .before .entered .ensures) at (c .before .before .before .before .before .before .keep-reason .ensures) in
@@ -25,7 +25,7 @@ returns c =
 
 returns-2 : tie.Need-returns-2
 unfolding one choose refuse
-returns-2 c = 
+returns-2 c =
     let a = c .before .before .before .before .before .before .before .before .args in
     let t = rows642 (now (a .t642)) in
     let kept = rw (c .before .before .before .before .before .keep-care .ensures, c .before .before .before .before .before .before .entered .ensures) at (c .before .before .before .before .keep-reason .ensures) in
@@ -34,7 +34,7 @@ returns-2 c =
 
 returns-3 : tie.Need-returns-3
 unfolding one choose refuse
-returns-3 c = 
+returns-3 c =
     let a = c .before .before .before .before .before .before .before .args in
     let t = rows642 (now (a .t642)) in
     let kept = rw (c .before .before .before .before .keep-care .ensures, c .before .before .before .before .before .entered .ensures) at (c .before .before .before .keep-reason .ensures) in
