@@ -18,12 +18,12 @@ use guideline::Row643;
 use guideline::Row649;
 
 pub mod dose_row;
-pub mod filter;
+mod filter;
 pub mod level;
 pub mod limits;
 pub mod person;
 pub mod product;
-pub mod remembered;
+mod remembered;
 pub mod setting;
 
 pub enum Chosen640 {
