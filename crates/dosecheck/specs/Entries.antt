@@ -1,7 +1,7 @@
 -- 125 in the parts that the code tests.
 use Prim.Native.Nat.{ℕ}
 use mathlib.Core.Path.{_≡_, refl, sym, _∙_, ap, ap₂}
-use mathlib.Core.Bool.{Bool, true, false, _&&_}
+use mathlib.Core.Bool.{Bool, true, false, _&&_, and-assoc}
 use lib.Dec.{leb}
 use Rattle.guideline.specs.declared.Datum.{Datum}
 use Rattle.guideline.specs.declared.Datum.the-variants.{Blank, Given}
@@ -30,10 +30,6 @@ abbrev pub six-data : Entry → Bool
 six-data e =
     (within-if-given ages (e .age) && within-if-given sexes (e .sex))
     && ((within-if-given codes-from-1 (e .hpk) && within-if-given codes-from-1 (e .prk)) && (within-if-given weights (e .weight) && within-if-given surfaces (e .surface)))
-
-and-assoc : (a b c : Bool) → ((a && b) && c) ≡ (a && (b && c))
-and-assoc true b c = refl
-and-assoc false b c = refl
 
 prescription-parts : (e : Entry) → (product-part e && dose-part e) ≡ prescription-in-range (prescription e)
 unfolding prescription-in-range

@@ -14,6 +14,8 @@ use lib.ListN.{length, getD, set, length-set}
 use lib.Seq.{getD-set-same, getD-set-other}
 use Rattle.guideline.specs.Table.{Hits, None, One, Many, keep, hits, more, some, number}
 use Rattle.guideline.specs.Bytes.{listed}
+use Rattle.guideline.proofs.Gives.{some-more}
+use Rattle.guideline.proofs.Shuffle.{length-listed}
 
 -- lists
 pub keep-map : {A B : Type 0} (p : B → Bool) (f : A → B) (l : List A) → keep p (map f l) ≡ map f (keep (λ a. p (f a)) l)
@@ -43,10 +45,6 @@ pub length-map : {A B : Type 0} (f : A → B) (l : List A) → length (map f l) 
 length-map f [] = refl
 length-map f (x ∷ l) = ap suc (length-map f l)
 
-pub length-listed : {A : Type 0} (n : ℕ) (f : ℕ → A) → length (listed n f) ≡ n
-length-listed zero f = refl
-length-listed (suc n) f = ap suc (length-listed n f)
-
 number-more : {A : Type 0} (x : A) (h : Hits A) → number (more x h) ≡ suc (number h)
 number-more x None = refl
 number-more x (One y) = refl
@@ -56,13 +54,8 @@ pub number-hits : {A : Type 0} (l : List A) → number (hits l) ≡ length l
 number-hits [] = refl
 number-hits (x ∷ l) = number-more x (hits l) ∙ ap suc (number-hits l)
 
-some-number : {A : Type 0} (x : A) (h : Hits A) → some (more x h) ≡ true
-some-number x None = refl
-some-number x (One y) = refl
-some-number x (Many n) = refl
-
 pub some-cons : {A : Type 0} (x : A) (l : List A) → some (hits (x ∷ l)) ≡ true
-some-cons x l = some-number x (hits l)
+some-cons x l = some-more x (hits l)
 
 -- a part is no longer than the whole
 length-keep : {A : Type 0} (p : A → Bool) (l : List A) → length (keep p l) ≤ length l

@@ -1,7 +1,7 @@
 -- "Rows that survive a filter are remembered by position in one fixed set of 512": what a set stands for, and what its methods do to it.
 use Prim.Native.Nat.{ℕ, zero, suc, _+_, _/_, _≤_, _<_}
 use mathlib.Core.Path.{_≡_, refl, sym, _∙_, ap, ap₂, fun-ext}
-use mathlib.Core.Bool.{Bool, true, false, not, _&&_, and-true}
+use mathlib.Core.Bool.{Bool, true, false, not, _&&_, and-true, and-assoc}
 use mathlib.Core.List.{List, [], _∷_, map}
 use native.Mathlib.Omega.{arith}
 use lib.Dec.{eqb}
@@ -13,7 +13,8 @@ use Rattle.guideline.specs.Table.{Table, Hits, None, One, Many, keep, hits, tab
 use Rattle.guideline.specs.Bytes.{cell, listed, row643, width643, rows-of}
 use Rattle.guideline.specs.Steps.{of-category, age-fits}
 use Rattle.tables.specs.Lents.{rows, rows643}
-use Rattle.selection.specs.Places.{Below, below-keep, below-listed, below-places, below-place, held, Keeping, keeping-length, Missed, some-at, some-places, keep-map, keep-keep, listed-map, length-map, length-listed, number-hits, room}
+use Rattle.guideline.proofs.Shuffle.{length-listed}
+use Rattle.selection.specs.Places.{Below, below-keep, below-listed, below-places, below-place, held, Keeping, keeping-length, Missed, some-at, some-places, keep-map, keep-keep, listed-map, length-map, number-hits, room}
 use Rattle.selection.specs.declared.filter.Frequency.{Frequency}
 use Rattle.selection.specs.declared.filter.Filter.the-variants.{Exact, Twin}
 use Rattle.selection.specs.declared.remembered.Remembered.{Remembered}
@@ -109,10 +110,6 @@ module _ (l : List ℕ) (category age : ℕ) where
             ∙ ap (λ (t : Table Row643). among (aged category age) t) (sym private-rows)
             ∙ fun-ext (λ q. ap (rows643 l) (fun-ext (λ x. and-assoc (of-category category x) (age-fits age x) (q x))));
       }
-    where
-      and-assoc : (a b c : Bool) → ((a && b) && c) ≡ (a && (b && c))
-      and-assoc true b c = refl
-      and-assoc false b c = refl
 
 -- is there a remembered row with a property; what a search found
 module _ (l : List ℕ) (s : Remembered) (p : Row643 → Bool) where
