@@ -17,14 +17,14 @@ use guideline::Row642;
 use guideline::Row643;
 use guideline::Row649;
 
-pub mod dose_row;
+mod dose_row;
 mod filter;
-pub mod level;
-pub mod limits;
-pub mod person;
-pub mod product;
+mod level;
+mod limits;
+mod person;
+mod product;
 mod remembered;
-pub mod setting;
+mod setting;
 
 pub enum Chosen640 {
     Row(Row640),
