@@ -6,7 +6,7 @@ ghost use Rattle.records.specs.Layout.{every, fixedPart, numbers, fits};
 ghost use Rattle.records.specs.File730.{layout730, values730, reading, read730, writing, leaves};
 ghost use Rattle.records.specs.Puts.{puts, front730, frontValues, back730, backValues};
 
-pub mod parts;
+mod parts;
 
 use crate::parts::Field;
 use crate::parts::has_room;
