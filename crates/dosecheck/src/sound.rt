@@ -20,22 +20,22 @@ pub enum Soundness {
 fn whole(t640: &[u8], t641: &[u8], t642: &[u8], t643: &[u8], t649: &[u8], t730: &[u8]) -> Soundness
     ensures { λ r. ⌜ r ≡ whole-of (spelled (record { b640 = now (t640 .entry); b641 = now (t641 .entry); b642 = now (t642 .entry); b643 = now (t643 .entry); b649 = now (t649 .entry); b730 = now (t730 .entry) })) ⌝ }
 {
-    if !tables::whole(t640, t640::WIDTH) {
+    if !cells::whole(t640, t640::WIDTH) {
         return Soundness::Refused(Reason::NotWhole(TableName::T640));
     }
-    if !tables::whole(t641, t641::WIDTH) {
+    if !cells::whole(t641, t641::WIDTH) {
         return Soundness::Refused(Reason::NotWhole(TableName::T641));
     }
-    if !tables::whole(t642, t642::WIDTH) {
+    if !cells::whole(t642, t642::WIDTH) {
         return Soundness::Refused(Reason::NotWhole(TableName::T642));
     }
-    if !tables::whole(t643, t643::WIDTH) {
+    if !cells::whole(t643, t643::WIDTH) {
         return Soundness::Refused(Reason::NotWhole(TableName::T643));
     }
-    if !tables::whole(t649, t649::WIDTH) {
+    if !cells::whole(t649, t649::WIDTH) {
         return Soundness::Refused(Reason::NotWhole(TableName::T649));
     }
-    if !tables::whole(t730, t730::WIDTH) {
+    if !cells::whole(t730, t730::WIDTH) {
         return Soundness::Refused(Reason::NotWhole(TableName::T730));
     }
     Soundness::Sound

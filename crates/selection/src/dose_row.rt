@@ -4,7 +4,7 @@ ghost use Prim.Native.Nat.{_≤_};
 ghost use Rattle.guideline.specs.Ask.{run};
 ghost use Rattle.guideline.specs.Check.{datum, prescription};
 ghost use Rattle.guideline.specs.Table.{number, among};
-ghost use Rattle.guideline.specs.Steps.{of-category, by-age, no-frequency, by-frequency, by-weight, by-surface, one-row, dose-row};
+ghost use Rattle.guideline.specs.Steps.{of-category, by-age, no-frequency, by-frequency, by-weight, by-surface, one-row, of-rows, dose-row};
 ghost use Rattle.tables.specs.Lents.{rows643};
 ghost use Rattle.tables.specs.Tests.{test643};
 ghost use Rattle.tables.specs.declared.t643.Test643.the-variants.{Category};
@@ -167,8 +167,8 @@ fn turned(step: Step) -> Chosen643
 }
 
 // Steps 7 to 11, among the rows of the category.
-pub fn dose_row(t643: &[u8], e: Entry, age: u32, category: u32) -> Chosen643
-    ensures { λ r. ⌜ r ≡ chosen643 (run (datum e) (dose-row (rows643 (now (t643 .entry))) (prescription e) age category)) ⌝ }
+fn of_rows(t643: &[u8], e: Entry, age: u32, category: u32) -> Chosen643
+    ensures { λ r. ⌜ r ≡ chosen643 (run (datum e) (of-rows (prescription e) age (among (of-category category) (rows643 (now (t643 .entry)))))) ⌝ }
 {
     if remembered::MOST < t643::number(t643, Test643::Category(category)) {
         return Chosen643::Refused(Refusal::Ends(Reason::TooManyRows));
@@ -194,4 +194,10 @@ pub fn dose_row(t643: &[u8], e: Entry, age: u32, category: u32) -> Chosen643
         return turned(last);
     };
     one_row(measured.set, t643, e)
+}
+
+pub fn dose_row(t643: &[u8], e: Entry, age: u32, category: u32) -> Chosen643
+    ensures { λ r. ⌜ r ≡ chosen643 (run (datum e) (dose-row (rows643 (now (t643 .entry))) (prescription e) age category)) ⌝ }
+{
+    of_rows(t643::of_category(t643, category), e, age, category)
 }

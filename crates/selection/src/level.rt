@@ -48,8 +48,8 @@ fn by_prk(t641: &[u8], e: Entry) -> Chosen641
 }
 
 // "If rows .. exist: HPK blank 103; the one of them with that HPK is taken, several 123."
-pub fn level(t641: &[u8], e: Entry) -> Chosen641
-    ensures { λ r. ⌜ r ≡ chosen641 (run (datum e) (level (rows641 (now (t641 .entry))) (prescription e))) ⌝ }
+fn by_hpk(t641: &[u8], e: Entry) -> Chosen641
+    ensures { λ r. ⌜ r ≡ chosen641 (run (datum e) (by-hpk (among (of-gpk (e .gpk)) (rows641 (now (t641 .entry)))))) ⌝ }
 {
     if !t641::any(t641, Test641::HpkLevel(e.gpk)) {
         return by_prk(t641, e);
@@ -64,4 +64,10 @@ pub fn level(t641: &[u8], e: Entry) -> Chosen641
         Found641::One(row) => Chosen641::Row(row),
         Found641::Many(_) => Chosen641::Refused(Refusal::Ends(Reason::HpkSeveral)),
     }
+}
+
+pub fn level(t641: &[u8], e: Entry) -> Chosen641
+    ensures { λ r. ⌜ r ≡ chosen641 (run (datum e) (level (rows641 (now (t641 .entry))) (prescription e))) ⌝ }
+{
+    by_hpk(t641::of_gpk(t641, e.gpk), e)
 }

@@ -16,7 +16,8 @@ use tables::t649::Test649;
 pub fn limits_of(t649: &[u8], e: Entry, rule: u32) -> Chosen649
     ensures { λ r. ⌜ r ≡ chosen649 (run (datum e) (limits-of (rows649 (now (t649 .entry))) rule)) ⌝ }
 {
-    let found = t649::ask(t649, Test649::Rule(rule));
+    let part = t649::of_rule(t649, rule);
+    let found = t649::ask(part, Test649::Rule(rule));
     match found {
         Found649::Nothing => Chosen649::Refused(Refusal::Ends(Reason::LimitsAbsent)),
         Found649::One(row) => Chosen649::Row(row),

@@ -19,7 +19,8 @@ pub fn product(t640: &[u8], e: Entry) -> Chosen640
     if e.gpk == 0 {
         return Chosen640::Refused(Refusal::Ends(Reason::NoGpk));
     }
-    let found = t640::ask(t640, Test640::Gpk(e.gpk));
+    let part = t640::of_gpk(t640, e.gpk);
+    let found = t640::ask(part, Test640::Gpk(e.gpk));
     match found {
         Found640::Nothing => Chosen640::Refused(Refusal::Ends(Reason::GpkUnknown)),
         Found640::One(row) => Chosen640::Row(row),

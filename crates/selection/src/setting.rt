@@ -57,16 +57,22 @@ fn chosen(found: Found642) -> Chosen642
 }
 
 // "Keep the entered route; if none, route 0."
-pub fn setting(t642: &[u8], e: Entry, basis: u32) -> Chosen642
+fn by_route(t642: &[u8], e: Entry, basis: u32) -> Chosen642
     ensures { λ r. ⌜ r ≡ chosen642 (run (datum e) (setting (rows642 (now (t642 .entry))) (prescription e) basis)) ⌝ }
 {
     let entered = Setting::entered(e);
     let in_care = keep_care(t642, basis, entered);
     let for_reason = keep_reason(t642, basis, in_care);
-    let by_route = t642::ask(t642, Test642::Route(basis, for_reason));
-    match by_route {
+    let found = t642::ask(t642, Test642::Route(basis, for_reason));
+    match found {
         Found642::Nothing => chosen(t642::ask(t642, Test642::Route(basis, for_reason.no_route()))),
         Found642::One(row) => Chosen642::Row(row),
         Found642::Many(_) => Chosen642::Refused(Refusal::Ends(Reason::SettingSeveral)),
     }
+}
+
+pub fn setting(t642: &[u8], e: Entry, basis: u32) -> Chosen642
+    ensures { λ r. ⌜ r ≡ chosen642 (run (datum e) (setting (rows642 (now (t642 .entry))) (prescription e) basis)) ⌝ }
+{
+    by_route(t642::of_basis(t642, basis), e, basis)
 }

@@ -1,3 +1,4 @@
 pub mod Tally
 pub mod Tests
 pub mod Lents
+pub mod Parts

@@ -4,7 +4,7 @@ ghost use Prim.Native.Nat.{_/_, _<_};
 ghost use lib.ListN.{length};
 ghost use Rattle.guideline.specs.Bytes.{cell, row640, width640};
 ghost use Rattle.guideline.specs.Rows.{sound640};
-ghost use Rattle.guideline.specs.Steps.{all-rows};
+ghost use Rattle.guideline.specs.Steps.{all-rows, gpk-row};
 ghost use Rattle.tables.specs.Tally.{tallied};
 ghost use Rattle.tables.specs.Tests.{test640};
 ghost use Rattle.tables.specs.Lents.{rows640, found640};
@@ -16,6 +16,9 @@ use guideline::Row640;
 pub const WIDTH: usize = 3;
 
 pub const ROW: usize = 12;
+
+// Which of them is GPKODE, the key.
+const KEY: usize = 0;
 
 // What may be asked of a row.
 pub enum Test640 {
@@ -34,10 +37,17 @@ fn row(t: &[u8], row: usize) -> Row640
     ensures { λ r. ⌜ r ≡ row640 (cell width640 (now (t .entry)) row) ⌝ }
 {
     Row640 {
-        gpkode: crate::cell(t, WIDTH, row, 0),
-        gpdgst: crate::cell(t, WIDTH, row, 1),
-        gprisc: crate::cell(t, WIDTH, row, 2),
+        gpkode: cells::cell(t, WIDTH, row, 0),
+        gpdgst: cells::cell(t, WIDTH, row, 1),
+        gprisc: cells::cell(t, WIDTH, row, 2),
     }
+}
+
+// The part of the table where a GPK stands: asked about rows of the gpk, it answers as the table does.
+pub fn of_gpk(t: &[u8], gpk: u32) -> &[u8]
+    ensures { λ r. ⌜ rows640 (now r) (gpk-row gpk) ≡ rows640 (now (t .entry)) (gpk-row gpk) ⌝ }
+{
+    cells::part::part(t, WIDTH, KEY, gpk)
 }
 
 fn in_range(r: Row640) -> bool

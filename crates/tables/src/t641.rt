@@ -4,8 +4,8 @@ ghost use Prim.Native.Nat.{_/_, _<_};
 ghost use lib.ListN.{length};
 ghost use Rattle.guideline.specs.Bytes.{cell, row641, width641};
 ghost use Rattle.guideline.specs.Rows.{sound641};
-ghost use Rattle.guideline.specs.Table.{some};
-ghost use Rattle.guideline.specs.Steps.{all-rows, hpk-level, prk-level};
+ghost use Rattle.guideline.specs.Table.{some, among};
+ghost use Rattle.guideline.specs.Steps.{all-rows, hpk-level, prk-level, of-gpk};
 ghost use Rattle.tables.specs.Tally.{tallied};
 ghost use Rattle.tables.specs.Tests.{test641, key641};
 ghost use Rattle.tables.specs.Lents.{rows641, found641};
@@ -17,6 +17,9 @@ use guideline::Row641;
 pub const WIDTH: usize = 5;
 
 pub const ROW: usize = 20;
+
+// Which of them is GPKODE, the key.
+const KEY: usize = 0;
 
 // What may be asked of a row.
 pub enum Test641 {
@@ -38,11 +41,11 @@ fn row(t: &[u8], row: usize) -> Row641
     ensures { λ r. ⌜ r ≡ row641 (cell width641 (now (t .entry)) row) ⌝ }
 {
     Row641 {
-        gpkode: crate::cell(t, WIDTH, row, 0),
-        prkode: crate::cell(t, WIDTH, row, 1),
-        hpkode: crate::cell(t, WIDTH, row, 2),
-        gpdcod: crate::cell(t, WIDTH, row, 3),
-        gpdbas: crate::cell(t, WIDTH, row, 4),
+        gpkode: cells::cell(t, WIDTH, row, 0),
+        prkode: cells::cell(t, WIDTH, row, 1),
+        hpkode: cells::cell(t, WIDTH, row, 2),
+        gpdcod: cells::cell(t, WIDTH, row, 3),
+        gpdbas: cells::cell(t, WIDTH, row, 4),
     }
 }
 
@@ -61,6 +64,13 @@ fn prk_level(r: Row641) -> bool
         r.gpdcod == Row641::PRODUCT_LEVEL,
         guideline::both(r.hpkode == 0, 0 < r.prkode),
     )
+}
+
+// The part of the table where a GPK stands: asked about rows of the gpk, it answers as the table does.
+pub fn of_gpk(t: &[u8], gpk: u32) -> &[u8]
+    ensures { λ r. ⌜ among (of-gpk gpk) (rows641 (now r)) ≡ among (of-gpk gpk) (rows641 (now (t .entry))) ⌝ }
+{
+    cells::part::part(t, WIDTH, KEY, gpk)
 }
 
 fn in_range(r: Row641) -> bool
@@ -124,7 +134,7 @@ fn tally(t: &[u8], test: Test641) -> Tally
     while i < rows {
         let here = i;
         i += 1;
-        if crate::cell(t, WIDTH, here, 0) == gpk {
+        if cells::cell(t, WIDTH, here, 0) == gpk {
             if passes(row(t, here), test) {
                 count += 1;
                 last = here;

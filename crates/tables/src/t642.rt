@@ -4,8 +4,8 @@ ghost use Prim.Native.Nat.{_/_, _<_};
 ghost use lib.ListN.{length};
 ghost use Rattle.guideline.specs.Bytes.{cell, row642, width642};
 ghost use Rattle.guideline.specs.Rows.{sound642};
-ghost use Rattle.guideline.specs.Table.{some};
-ghost use Rattle.guideline.specs.Steps.{all-rows, of-reason};
+ghost use Rattle.guideline.specs.Table.{some, among};
+ghost use Rattle.guideline.specs.Steps.{all-rows, of-reason, of-basis};
 ghost use Rattle.tables.specs.Tally.{tallied};
 ghost use Rattle.tables.specs.Tests.{test642, key642};
 ghost use Rattle.tables.specs.Lents.{rows642, found642};
@@ -18,6 +18,9 @@ use guideline::Setting;
 pub const WIDTH: usize = 6;
 
 pub const ROW: usize = 24;
+
+// Which of them is GPDBAS, the key.
+const KEY: usize = 0;
 
 // What may be asked of a row.
 pub enum Test642 {
@@ -37,12 +40,12 @@ fn row(t: &[u8], row: usize) -> Row642
     ensures { λ r. ⌜ r ≡ row642 (cell width642 (now (t .entry)) row) ⌝ }
 {
     Row642 {
-        gpdbas: crate::cell(t, WIDTH, row, 0),
-        gpdzco: crate::cell(t, WIDTH, row, 1),
-        icpcnr1: crate::cell(t, WIDTH, row, 2),
-        icpcto: crate::cell(t, WIDTH, row, 3),
-        gpktwg: crate::cell(t, WIDTH, row, 4),
-        gpdcat: crate::cell(t, WIDTH, row, 5),
+        gpdbas: cells::cell(t, WIDTH, row, 0),
+        gpdzco: cells::cell(t, WIDTH, row, 1),
+        icpcnr1: cells::cell(t, WIDTH, row, 2),
+        icpcto: cells::cell(t, WIDTH, row, 3),
+        gpktwg: cells::cell(t, WIDTH, row, 4),
+        gpdcat: cells::cell(t, WIDTH, row, 5),
     }
 }
 
@@ -50,6 +53,13 @@ fn of_reason(r: Row642, s: Setting) -> bool
     ensures { λ b. ⌜ b ≡ of-reason (s .reason) (s .icpcto) r ⌝ }
 {
     guideline::both(r.icpcnr1 == s.reason, r.icpcto == s.icpcto)
+}
+
+// The part of the table where a basis stands: asked about rows of the basis, it answers as the table does.
+pub fn of_basis(t: &[u8], basis: u32) -> &[u8]
+    ensures { λ r. ⌜ among (of-basis basis) (rows642 (now r)) ≡ among (of-basis basis) (rows642 (now (t .entry))) ⌝ }
+{
+    cells::part::part(t, WIDTH, KEY, basis)
 }
 
 fn in_range(r: Row642) -> bool
@@ -115,7 +125,7 @@ fn tally(t: &[u8], test: Test642) -> Tally
     while i < rows {
         let here = i;
         i += 1;
-        if crate::cell(t, WIDTH, here, 0) == basis {
+        if cells::cell(t, WIDTH, here, 0) == basis {
             if passes(row(t, here), test) {
                 count += 1;
                 last = here;

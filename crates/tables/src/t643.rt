@@ -4,8 +4,8 @@ ghost use Prim.Native.Nat.{_/_, _<_};
 ghost use lib.ListN.{length};
 ghost use Rattle.guideline.specs.Bytes.{cell, row643, width643};
 ghost use Rattle.guideline.specs.Rows.{sound643, age-bounds, weight-bounds, surface-bounds};
-ghost use Rattle.guideline.specs.Table.{number};
-ghost use Rattle.guideline.specs.Steps.{all-rows};
+ghost use Rattle.guideline.specs.Table.{number, among};
+ghost use Rattle.guideline.specs.Steps.{all-rows, of-category};
 ghost use Rattle.tables.specs.Tally.{tallied};
 ghost use Rattle.tables.specs.Tests.{test643};
 ghost use Rattle.tables.specs.Lents.{rows643};
@@ -19,6 +19,9 @@ pub const WIDTH: usize = 10;
 
 pub const ROW: usize = 40;
 
+// Which of them is GPDCAT, the key.
+const KEY: usize = 0;
+
 // What may be asked of a row.
 pub enum Test643 {
     Category(u32),
@@ -30,16 +33,16 @@ pub fn row(t: &[u8], row: usize) -> Row643
     ensures { λ r. ⌜ r ≡ row643 (cell width643 (now (t .entry)) row) ⌝ }
 {
     Row643 {
-        gpdcat: crate::cell(t, WIDTH, row, 0),
-        gpdlfm: crate::cell(t, WIDTH, row, 1),
-        gpdlfx: crate::cell(t, WIDTH, row, 2),
-        gpdfaa: crate::cell(t, WIDTH, row, 3),
-        gpdfee: crate::cell(t, WIDTH, row, 4),
-        gpdkgm: crate::cell(t, WIDTH, row, 5),
-        gpdkgx: crate::cell(t, WIDTH, row, 6),
-        surfacelow: crate::cell(t, WIDTH, row, 7),
-        surfacehigh: crate::cell(t, WIDTH, row, 8),
-        gpddnr: crate::cell(t, WIDTH, row, 9),
+        gpdcat: cells::cell(t, WIDTH, row, 0),
+        gpdlfm: cells::cell(t, WIDTH, row, 1),
+        gpdlfx: cells::cell(t, WIDTH, row, 2),
+        gpdfaa: cells::cell(t, WIDTH, row, 3),
+        gpdfee: cells::cell(t, WIDTH, row, 4),
+        gpdkgm: cells::cell(t, WIDTH, row, 5),
+        gpdkgx: cells::cell(t, WIDTH, row, 6),
+        surfacelow: cells::cell(t, WIDTH, row, 7),
+        surfacehigh: cells::cell(t, WIDTH, row, 8),
+        gpddnr: cells::cell(t, WIDTH, row, 9),
     }
 }
 
@@ -68,6 +71,13 @@ pub fn surface_bounds(r: Row643) -> Bounds
         low: r.surfacelow,
         high: r.surfacehigh,
     }
+}
+
+// The part of the table where a category stands: asked about rows of the category, it answers as the table does.
+pub fn of_category(t: &[u8], category: u32) -> &[u8]
+    ensures { λ r. ⌜ among (of-category category) (rows643 (now r)) ≡ among (of-category category) (rows643 (now (t .entry))) ⌝ }
+{
+    cells::part::part(t, WIDTH, KEY, category)
 }
 
 fn in_range(r: Row643) -> bool

@@ -4,7 +4,7 @@ ghost use Prim.Native.Nat.{_/_, _<_};
 ghost use lib.ListN.{length};
 ghost use Rattle.guideline.specs.Bytes.{cell, row649, width649};
 ghost use Rattle.guideline.specs.Rows.{sound649};
-ghost use Rattle.guideline.specs.Steps.{all-rows};
+ghost use Rattle.guideline.specs.Steps.{all-rows, rule-row};
 ghost use Rattle.tables.specs.Tally.{tallied};
 ghost use Rattle.tables.specs.Tests.{test649};
 ghost use Rattle.tables.specs.Lents.{rows649, found649};
@@ -16,6 +16,9 @@ use guideline::Row649;
 pub const WIDTH: usize = 4;
 
 pub const ROW: usize = 16;
+
+// Which of them is GPDDNR, the key.
+const KEY: usize = 0;
 
 // What may be asked of a row.
 pub enum Test649 {
@@ -34,11 +37,18 @@ fn row(t: &[u8], row: usize) -> Row649
     ensures { λ r. ⌜ r ≡ row649 (cell width649 (now (t .entry)) row) ⌝ }
 {
     Row649 {
-        gpddnr: crate::cell(t, WIDTH, row, 0),
-        normminimum: crate::cell(t, WIDTH, row, 1),
-        normmaximum: crate::cell(t, WIDTH, row, 2),
-        absolutemaximum: crate::cell(t, WIDTH, row, 3),
+        gpddnr: cells::cell(t, WIDTH, row, 0),
+        normminimum: cells::cell(t, WIDTH, row, 1),
+        normmaximum: cells::cell(t, WIDTH, row, 2),
+        absolutemaximum: cells::cell(t, WIDTH, row, 3),
     }
+}
+
+// The part of the table where a rule stands: asked about rows of the rule, it answers as the table does.
+pub fn of_rule(t: &[u8], rule: u32) -> &[u8]
+    ensures { λ r. ⌜ rows649 (now r) (rule-row rule) ≡ rows649 (now (t .entry)) (rule-row rule) ⌝ }
+{
+    cells::part::part(t, WIDTH, KEY, rule)
 }
 
 fn in_range(r: Row649) -> bool

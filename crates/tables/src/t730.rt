@@ -1,6 +1,6 @@
 // Table 730: SRTCDE, CODE, CDHOEV, CDEENH.
 ghost use mathlib.Core.Path.{_≡_};
-ghost use Prim.Native.Nat.{_/_, _<_, _+_, _*_};
+ghost use Prim.Native.Nat.{_/_, _<_, _+_, _*_, ℕ};
 ghost use lib.ListN.{length};
 ghost use Rattle.guideline.specs.Bytes.{cell, row730, width730};
 ghost use Rattle.guideline.specs.Rows.{sound730};
@@ -17,6 +17,9 @@ use guideline::Row730;
 pub const WIDTH: usize = 5;
 
 pub const ROW: usize = 20;
+
+// Which of them is CODE, the key.
+const KEY: usize = 1;
 
 // What may be asked of a row.
 pub enum Test730 {
@@ -35,10 +38,10 @@ fn row(t: &[u8], row: usize) -> Row730
     ensures { λ r. ⌜ r ≡ row730 (cell width730 (now (t .entry)) row) ⌝ }
 {
     Row730 {
-        srtcde: crate::cell(t, WIDTH, row, 0),
-        code: crate::cell(t, WIDTH, row, 1),
-        cdhoev: long(crate::cell(t, WIDTH, row, 2), crate::cell(t, WIDTH, row, 3)),
-        cdeenh: crate::cell(t, WIDTH, row, 4),
+        srtcde: cells::cell(t, WIDTH, row, 0),
+        code: cells::cell(t, WIDTH, row, 1),
+        cdhoev: long(cells::cell(t, WIDTH, row, 2), cells::cell(t, WIDTH, row, 3)),
+        cdeenh: cells::cell(t, WIDTH, row, 4),
     }
 }
 
@@ -53,6 +56,13 @@ fn long(low: u32, high: u32) -> u64
     ensures { λ r. ⌜ r ≡ low + high * 4_294_967_296 ⌝ }
 {
     low as u64 + high as u64 * 4_294_967_296
+}
+
+// The part of the table where a code stands: asked about rows of the code, it answers as the table does.
+pub fn of_code(t: &[u8], code: u32) -> &[u8]
+    ensures { λ r. ⌜ ((srtcde unit : ℕ) → rows730 (now r) (unit-row srtcde code unit) ≡ rows730 (now (t .entry)) (unit-row srtcde code unit)) ⌝ }
+{
+    cells::part::part(t, WIDTH, KEY, code)
 }
 
 fn in_range(r: Row730) -> bool

@@ -85,8 +85,9 @@ pub fn ratio(t730: &[u8], e: Entry) -> Converted
     if e.entered == e.base {
         return Converted::Ratio(one_to_one());
     }
+    let part = tables::t730::of_code(t730, e.code);
     let base = take(
-        t730,
+        part,
         Test730::Unit(e.srtcde, e.code, e.base),
         Reason::BaseUnitAbsent,
         Reason::BaseUnitSeveral,
@@ -95,7 +96,7 @@ pub fn ratio(t730: &[u8], e: Entry) -> Converted
         return hand_on(base);
     };
     let entered = take(
-        t730,
+        part,
         Test730::Unit(e.srtcde, e.code, e.entered),
         Reason::EnteredUnitAbsent,
         Reason::EnteredUnitSeveral,

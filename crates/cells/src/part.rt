@@ -1,0 +1,48 @@
+// The part of a table where a key stands. A table is scanned once for it; what is asked of the rows with the key is then asked of the part.
+ghost use mathlib.Core.Path.{_≡_};
+ghost use Prim.Native.Nat.{_≤_, _<_};
+ghost use Rattle.cells.specs.Parts.{Part, Without, rows-in};
+
+// How many rows stand before the first whose number k is the key.
+fn first(t: &[u8], width: usize, k: usize, key: u32) -> usize
+    requires { ⌜ (k < width) × (width ≤ 16) ⌝ }
+    ensures { λ r. ⌜ (r ≤ rows-in width (now (t .entry))) × Without width k key (now (t .entry)) 0 r ⌝ }
+{
+    let rows = t.len() / (width * 4);
+    let mut i: usize = 0;
+    while i < rows {
+        if crate::cell(t, width, i, k) == key {
+            return i;
+        }
+        i += 1;
+    }
+    rows
+}
+
+// How many rows stand up to the last whose number k is the key, of which there is none before `from`.
+fn end(t: &[u8], width: usize, k: usize, key: u32, from: usize) -> usize
+    requires { ⌜ (k < width) × (width ≤ 16) × (from ≤ rows-in width (now t)) ⌝ }
+    ensures { λ r. ⌜ (from ≤ r) × (r ≤ rows-in width (now (t .entry))) × Without width k key (now (t .entry)) r (rows-in width (now (t .entry))) ⌝ }
+{
+    let mut i = t.len() / (width * 4);
+    while from < i {
+        let here = i - 1;
+        if crate::cell(t, width, here, k) == key {
+            return i;
+        }
+        i = here;
+    }
+    from
+}
+
+pub fn part(t: &[u8], width: usize, k: usize, key: u32) -> &[u8]
+    requires { ⌜ (k < width) × (width ≤ 16) ⌝ }
+    ensures { λ r. ⌜ Part width k key (now (t .entry)) (now r) ⌝ }
+{
+    let row = width * 4;
+    let from = first(t, width, k, key);
+    let to = end(t, width, k, key, from);
+    let a = from * row;
+    let b = to * row;
+    &t[a..b]
+}
