@@ -166,7 +166,7 @@ fn compared(given: &Arguments, program: Option<&str>) -> Result<(), String> {
 
 fn stored(what: &str, dir: &Path) -> Result<(), String> {
     let report = match what {
-        "answers" => store::answers(dir).map(|(cases, entries)| format!("{cases} cases, {entries} entries")),
+        "answers" => store::answers(dir),
         "broken" => store::broken(dir).map(|count| format!("{count} streams")),
         "units" => store::units(dir).map(|count| format!("{count} records")),
         _ => return Err(format!("cannot store {what}; see second --help")),

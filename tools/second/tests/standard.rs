@@ -1,11 +1,15 @@
 //! The standard run: it reaches every test and tells every wrong version; so do the stored vectors.
 
+use second::check::test::Shape;
 use second::check::{Table, Test};
 use second::fault::{Fault, Part};
-use second::generate;
+use second::generate::{self, case::Case, proof_table::k_case};
+use second::record::list::unit_list;
 use second::run::cover::{Coverage, Seen};
 use second::run::faults::{self, Faults};
 use second::run::{compare, demand3, edges, store, STANDARD_CASES, STANDARD_SEED};
+use second::switch::Right;
+use std::sync::LazyLock;
 
 const PROGRAM: &str = env!("CARGO_BIN_EXE_second");
 
@@ -29,23 +33,19 @@ fn every_wrong_version_is_told() {
     assert!(Fault::ALL.len() >= 60 && faults.all.len() > Fault::ALL.len());
 }
 
+static STORED: LazyLock<Vec<Case>> = LazyLock::new(store::cases);
+
 /// The stored vectors hold long tables of 640 alone.
 #[test]
 fn the_stored_vectors_are_as_strong() {
     let mut coverage = Coverage::default();
     let mut faults = Faults::new();
-    let cases = store::cases();
-    assert!(cases.iter().map(|case| case.bytes().len()).sum::<usize>() <= 3_000_000);
-    for (number, case) in cases.iter().enumerate().rev() {
+    for (number, case) in STORED.iter().enumerate().rev() {
         coverage.add(case);
         faults.tell_check(case, number as u64);
     }
-    let other_table_too_long = |seen: &Seen| match seen {
-        Seen::Test(Test::Shape(table, second::check::test::Shape::TooLong)) => *table != Table::T640,
-        _ => false,
-    };
-    let missing: Vec<Seen> = coverage.missing().into_iter().filter(|seen| !other_table_too_long(seen)).collect();
-    assert_eq!(missing, []);
+    let too_long = |table| Seen::Test(Test::Shape(table, Shape::TooLong));
+    assert_eq!(coverage.missing(), Table::ALL[1..].iter().map(|table| too_long(*table)).collect::<Vec<Seen>>());
     faults.tell_list(&store::unit_input(), 0);
     let untold: Vec<String> = faults
         .all
@@ -57,6 +57,19 @@ fn the_stored_vectors_are_as_strong() {
     let by_the_end = ["EmptyRestListed", "LastRecordDropped"];
     assert!(untold.iter().all(|name| by_the_end.iter().any(|fault| name.starts_with(fault))), "{untold:?}");
     assert!(untold.len() < by_the_end.len(), "{untold:?}");
+}
+
+/// What the gate runs the proved programs on: K1 to K15 first, thousands of cases, below 5 MB.
+#[test]
+fn the_stored_files_are_these_vectors() {
+    let file = |name: &str| std::fs::read(format!("{}/../../crates/{name}", env!("CARGO_MANIFEST_DIR"))).expect(name);
+    let (stdin, stdout) = store::stream(&STORED);
+    assert!(file("answers/stdin") == stdin && file("answers/stdout") == stdout, "run tools/store");
+    assert!(stdin.starts_with(&k_case().bytes()));
+    assert!(STORED.len() == store::CASES && STORED.len() >= 3_000 && stdin.len() < 5_000_000);
+    let units = store::unit_input();
+    assert!(file("unit_list/stdin").starts_with(&units), "run tools/store");
+    assert!(file("unit_list/stdout").starts_with(&unit_list(Right, &units)), "run tools/store");
 }
 
 fn comparison(answers: Option<&str>, units: Option<&str>) -> Result<u64, String> {
