@@ -72,13 +72,18 @@ fn the_stored_files_are_these_vectors() {
     assert!(file("unit_list/stdout").starts_with(&unit_list(Right, &units)), "run tools/store");
 }
 
+/// More cases than one start of the program gets.
+const COMPARED: u64 = 12_000;
+
+/// How many lines were equal.
 fn comparison(answers: Option<&str>, units: Option<&str>) -> Result<u64, String> {
-    compare::run(&compare::Run { seed: 77, first: 0, cases: 4_000, quiet: true, answers, units })
+    let run = compare::Run { seed: 77, first: 0, cases: COMPARED, quiet: true, answers, units };
+    compare::run(&run).map(|equal| equal.entries + equal.records)
 }
 
 #[test]
 fn the_program_agrees_with_itself() {
-    assert!(comparison(Some(&program("answers")), Some(&program("units"))) > Ok(20_000));
+    assert!(comparison(Some(&program("answers")), Some(&program("units"))) > Ok(5 * COMPARED));
     assert_eq!(edges::run(&program("answers")), Ok(edges::streams().len()));
 }
 
@@ -94,7 +99,7 @@ fn a_wrong_program_is_told_with_the_case_to_repeat() {
         .parse()
         .expect("a number");
     let again = compare::Run { seed: 77, first: number, cases: 1, quiet: true, answers: Some(&wrong), units: None };
-    assert_eq!(compare::run(&again).expect_err("the same difference"), what);
+    assert_eq!(compare::run(&again).err(), Some(what));
     assert!(comparison(None, Some(&program("units --fault ColonIsDigit"))).is_err());
     assert!(comparison(Some(&program("nothing")), None).is_err());
     assert!(comparison(Some("no such program"), None).is_err());
@@ -102,12 +107,12 @@ fn a_wrong_program_is_told_with_the_case_to_repeat() {
 
 #[test]
 fn demand_3_holds_and_faults_against_it_are_told() {
-    let judged = demand3::run(&program("answers"), 5, 2_000).expect("demand 3");
+    let judged = demand3::run(&program("answers"), 5, 0..2_000).expect("demand 3");
     assert!(judged.fillings_of_the_question > 1_000 && judged.fillings_of_other_answers > 1_000, "{judged:?}");
     for fault in
         ["WeightByCategory", "SexBeforeAge", "PrkAskedAfterHpk", "FirstRuleRow", "MonthsDefaultOff", "HpkNeverAsked"]
     {
-        assert!(demand3::run(&program(&format!("answers --fault {fault}")), 5, 2_000).is_err(), "{fault}");
+        assert!(demand3::run(&program(&format!("answers --fault {fault}")), 5, 0..2_000).is_err(), "{fault}");
     }
 }
 
