@@ -9,6 +9,7 @@ use second::switch::{Right, Wrong};
 use std::io::{self, BufReader, BufWriter, Read, Write};
 use std::path::Path;
 use std::process::ExitCode;
+use std::time::Instant;
 
 const HELP: &str = "second: the dose check and file 730, written from document 01 alone
 
@@ -98,8 +99,9 @@ fn run(given: &Arguments) -> Result<(), String> {
             Ok(())
         }
         ["demand3", program] => {
-            let judged = demand3::run(program, given.seed, given.cases)?;
-            println!("demand 3 holds: {judged:?}");
+            let start = Instant::now();
+            let judged = demand3::run(program, given.seed, numbers)?;
+            println!("demand 3 holds, {} cases: {judged:?}, {:.0?}", given.cases, start.elapsed());
             Ok(())
         }
         ["store", what, dir] => stored(what, Path::new(dir)),
@@ -152,7 +154,8 @@ fn told(given: &Arguments) -> Result<(), String> {
 }
 
 fn compared(given: &Arguments, program: Option<&str>) -> Result<(), String> {
-    let lines = compare::run(&compare::Run {
+    let start = Instant::now();
+    let compare::Equal { entries, records } = compare::run(&compare::Run {
         seed: given.seed,
         first: given.first,
         cases: given.cases,
@@ -160,13 +163,14 @@ fn compared(given: &Arguments, program: Option<&str>) -> Result<(), String> {
         answers: program,
         units: given.units.as_deref(),
     })?;
-    println!("{} cases, {lines} lines, all equal", given.cases);
+    let time = start.elapsed();
+    println!("{} cases, {entries} entries and {records} unit records, all equal, {time:.0?}", given.cases);
     Ok(())
 }
 
 fn stored(what: &str, dir: &Path) -> Result<(), String> {
     let report = match what {
-        "answers" => store::answers(dir).map(|(cases, entries)| format!("{cases} cases, {entries} entries")),
+        "answers" => store::answers(dir),
         "broken" => store::broken(dir).map(|count| format!("{count} streams")),
         "units" => store::units(dir).map(|count| format!("{count} records")),
         _ => return Err(format!("cannot store {what}; see second --help")),

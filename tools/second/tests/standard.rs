@@ -1,11 +1,15 @@
 //! The standard run: it reaches every test and tells every wrong version; so do the stored vectors.
 
+use second::check::test::Shape;
 use second::check::{Table, Test};
 use second::fault::{Fault, Part};
-use second::generate;
+use second::generate::{self, case::Case, proof_table::k_case};
+use second::record::list::unit_list;
 use second::run::cover::{Coverage, Seen};
 use second::run::faults::{self, Faults};
 use second::run::{compare, demand3, edges, store, STANDARD_CASES, STANDARD_SEED};
+use second::switch::Right;
+use std::sync::LazyLock;
 
 const PROGRAM: &str = env!("CARGO_BIN_EXE_second");
 
@@ -29,23 +33,19 @@ fn every_wrong_version_is_told() {
     assert!(Fault::ALL.len() >= 60 && faults.all.len() > Fault::ALL.len());
 }
 
+static STORED: LazyLock<Vec<Case>> = LazyLock::new(store::cases);
+
 /// The stored vectors hold long tables of 640 alone.
 #[test]
 fn the_stored_vectors_are_as_strong() {
     let mut coverage = Coverage::default();
     let mut faults = Faults::new();
-    let cases = store::cases();
-    assert!(cases.iter().map(|case| case.bytes().len()).sum::<usize>() <= 3_000_000);
-    for (number, case) in cases.iter().enumerate().rev() {
+    for (number, case) in STORED.iter().enumerate().rev() {
         coverage.add(case);
         faults.tell_check(case, number as u64);
     }
-    let other_table_too_long = |seen: &Seen| match seen {
-        Seen::Test(Test::Shape(table, second::check::test::Shape::TooLong)) => *table != Table::T640,
-        _ => false,
-    };
-    let missing: Vec<Seen> = coverage.missing().into_iter().filter(|seen| !other_table_too_long(seen)).collect();
-    assert_eq!(missing, []);
+    let too_long = |table| Seen::Test(Test::Shape(table, Shape::TooLong));
+    assert_eq!(coverage.missing(), Table::ALL[1..].iter().map(|table| too_long(*table)).collect::<Vec<Seen>>());
     faults.tell_list(&store::unit_input(), 0);
     let untold: Vec<String> = faults
         .all
@@ -59,13 +59,31 @@ fn the_stored_vectors_are_as_strong() {
     assert!(untold.len() < by_the_end.len(), "{untold:?}");
 }
 
+/// What the gate runs the proved programs on: K1 to K15 first, thousands of cases, below 5 MB.
+#[test]
+fn the_stored_files_are_these_vectors() {
+    let file = |name: &str| std::fs::read(format!("{}/../../crates/{name}", env!("CARGO_MANIFEST_DIR"))).expect(name);
+    let (stdin, stdout) = store::stream(&STORED);
+    assert!(file("answers/stdin") == stdin && file("answers/stdout") == stdout, "run tools/store");
+    assert!(stdin.starts_with(&k_case().bytes()));
+    assert!(STORED.len() == store::CASES && STORED.len() >= 3_000 && stdin.len() < 5_000_000);
+    let units = store::unit_input();
+    assert!(file("unit_list/stdin").starts_with(&units), "run tools/store");
+    assert!(file("unit_list/stdout").starts_with(&unit_list(Right, &units)), "run tools/store");
+}
+
+/// More cases than one start of the program gets.
+const COMPARED: u64 = 12_000;
+
+/// How many lines were equal.
 fn comparison(answers: Option<&str>, units: Option<&str>) -> Result<u64, String> {
-    compare::run(&compare::Run { seed: 77, first: 0, cases: 4_000, quiet: true, answers, units })
+    let run = compare::Run { seed: 77, first: 0, cases: COMPARED, quiet: true, answers, units };
+    compare::run(&run).map(|equal| equal.entries + equal.records)
 }
 
 #[test]
 fn the_program_agrees_with_itself() {
-    assert!(comparison(Some(&program("answers")), Some(&program("units"))) > Ok(20_000));
+    assert!(comparison(Some(&program("answers")), Some(&program("units"))) > Ok(5 * COMPARED));
     assert_eq!(edges::run(&program("answers")), Ok(edges::streams().len()));
 }
 
@@ -81,7 +99,7 @@ fn a_wrong_program_is_told_with_the_case_to_repeat() {
         .parse()
         .expect("a number");
     let again = compare::Run { seed: 77, first: number, cases: 1, quiet: true, answers: Some(&wrong), units: None };
-    assert_eq!(compare::run(&again).expect_err("the same difference"), what);
+    assert_eq!(compare::run(&again).err(), Some(what));
     assert!(comparison(None, Some(&program("units --fault ColonIsDigit"))).is_err());
     assert!(comparison(Some(&program("nothing")), None).is_err());
     assert!(comparison(Some("no such program"), None).is_err());
@@ -89,12 +107,12 @@ fn a_wrong_program_is_told_with_the_case_to_repeat() {
 
 #[test]
 fn demand_3_holds_and_faults_against_it_are_told() {
-    let judged = demand3::run(&program("answers"), 5, 2_000).expect("demand 3");
+    let judged = demand3::run(&program("answers"), 5, 0..2_000).expect("demand 3");
     assert!(judged.fillings_of_the_question > 1_000 && judged.fillings_of_other_answers > 1_000, "{judged:?}");
     for fault in
         ["WeightByCategory", "SexBeforeAge", "PrkAskedAfterHpk", "FirstRuleRow", "MonthsDefaultOff", "HpkNeverAsked"]
     {
-        assert!(demand3::run(&program(&format!("answers --fault {fault}")), 5, 2_000).is_err(), "{fault}");
+        assert!(demand3::run(&program(&format!("answers --fault {fault}")), 5, 0..2_000).is_err(), "{fault}");
     }
 }
 

@@ -1,6 +1,6 @@
 //! Bulk comparison of another program with this one, line by line.
 
-use super::program::{self, Output};
+use super::program::{self, second, Output};
 use super::show;
 use crate::generate::{self, case::Case, records::unit_file};
 use crate::record::list::{records, unit_list};
@@ -8,10 +8,10 @@ use crate::run::{answers_of, answers_of_bytes};
 use crate::switch::Right;
 use std::time::Instant;
 
-/// Cases for each start of the program.
-const BATCH: u64 = 2_000;
+/// Cases for each start of the program: many, since a start under an emulator takes as long as hundreds of cases.
+const BATCH: u64 = 10_000;
 /// Batches between two lines of progress.
-const PROGRESS: u64 = 25;
+const PROGRESS: u64 = 5;
 
 pub struct Run<'a> {
     pub seed: u64,
@@ -22,25 +22,37 @@ pub struct Run<'a> {
     pub units: Option<&'a str>,
 }
 
-/// The number of lines compared, or the first difference.
-pub fn run(run: &Run) -> Result<u64, String> {
+/// Lines that were equal: one for each entry, and one for each record of the unit files.
+#[derive(Default)]
+pub struct Equal {
+    pub entries: u64,
+    pub records: u64,
+}
+
+/// The lines compared, or the first difference.
+pub fn run(run: &Run) -> Result<Equal, String> {
     let start = Instant::now();
-    let mut lines = 0;
+    let mut equal = Equal::default();
     let end = run.first + run.cases;
     for (batch, first) in (run.first..end).step_by(BATCH as usize).enumerate() {
         let numbers = first..end.min(first + BATCH);
         if let Some(program) = run.answers {
-            lines += answers(program, run.seed, numbers.clone())?;
+            equal.entries += answers(program, run.seed, numbers.clone())?;
         }
         if let Some(program) = run.units {
-            lines += units(program, run.seed, numbers)?;
+            equal.records += units(program, run.seed, numbers)?;
         }
         if batch as u64 % PROGRESS == PROGRESS - 1 && !run.quiet {
             let done = end.min(first + BATCH) - run.first;
-            eprintln!("{done} of {} cases, {lines} lines equal, {:.0?}", run.cases, start.elapsed());
+            let Equal { entries, records } = equal;
+            eprintln!(
+                "{done} of {} cases, {entries} entries and {records} unit records equal, {:.0?}",
+                run.cases,
+                start.elapsed()
+            );
         }
     }
-    Ok(lines)
+    Ok(equal)
 }
 
 fn answers(program: &str, seed: u64, numbers: std::ops::Range<u64>) -> Result<u64, String> {
@@ -89,8 +101,8 @@ fn difference(program: &str, seed: u64, number: u64, entry: usize, got: &str, ex
         format!("entry:   {}", show::entry(&case.entries[entry])),
         format!("second:  {expected} (by the test {test:?})"),
         format!("program: {got}"),
-        format!("repeat:  second compare '{program}' --seed {seed} --first {number} --cases 1"),
-        format!("stream:  second generate --seed {seed} --first {number} --cases 1"),
+        format!("repeat:  {} compare '{program}' --seed {seed} --first {number} --cases 1", second()),
+        format!("stream:  {} generate --seed {seed} --first {number} --cases 1", second()),
     ];
     lines.join("\n")
 }
@@ -113,8 +125,8 @@ fn units(program: &str, seed: u64, numbers: std::ops::Range<u64>) -> Result<u64,
         format!("record:  \"{record}\""),
         format!("second:  {}", of(&expected)),
         format!("program: {}{}", of(&out), ended.err().map_or(String::new(), |ended| format!(" ({ended})"))),
-        format!("repeat:  second compare --units '{program}' --seed {seed} --first {first} --cases {cases}"),
-        format!("input:   second unit-files --seed {seed} --first {first} --cases {cases}"),
+        format!("repeat:  {} compare --units '{program}' --seed {seed} --first {first} --cases {cases}", second()),
+        format!("input:   {} unit-files --seed {seed} --first {first} --cases {cases}", second()),
     ];
     Err(lines.join("\n"))
 }

@@ -7,12 +7,15 @@ use crate::generate;
 use crate::generate::case::{Case, Numbers};
 use crate::random::Random;
 use crate::switch::Right;
+use std::ops::Range;
 
 /// The data an entry may leave blank, each with its question.
 const DATA: [(usize, u32); 6] = [(AGE, 101), (SEX, 102), (HPK, 103), (PRK, 104), (WEIGHT, 105), (SURFACE, 106)];
 
 /// Cases for each start of the program.
-const BATCH: u64 = 500;
+const BATCH: u64 = 2_500;
+/// Batches between two lines of progress.
+const PROGRESS: usize = 4;
 
 /// Several permitted values of a datum.
 fn values(datum: usize, r: &mut Random, case: &Case) -> Vec<u32> {
@@ -84,7 +87,7 @@ fn filling(seed: u64, number: u64) -> Filling {
 }
 
 /// The stream of filled entries, each case followed by itself with its rows in another order.
-pub fn stream(seed: u64, cases: std::ops::Range<u64>) -> Vec<u8> {
+pub fn stream(seed: u64, cases: Range<u64>) -> Vec<u8> {
     let mut out = vec![];
     for number in cases {
         let filling = filling(seed, number);
@@ -104,10 +107,13 @@ pub struct Judged {
     pub reordered: u64,
 }
 
-pub fn run(of: &str, seed: u64, cases: u64) -> Result<Judged, String> {
+pub fn run(of: &str, seed: u64, cases: Range<u64>) -> Result<Judged, String> {
     let mut judged = Judged::default();
-    for first in (0..cases).step_by(BATCH as usize) {
-        let numbers = first..cases.min(first + BATCH);
+    for (batch, first) in cases.clone().step_by(BATCH as usize).enumerate() {
+        if batch > 0 && batch.is_multiple_of(PROGRESS) {
+            eprintln!("demand 3: {} of {} cases", first - cases.start, cases.end - cases.start);
+        }
+        let numbers = first..cases.end.min(first + BATCH);
         let lines = program::lines(of, &stream(seed, numbers.clone()))?;
         let mut rest = &lines[..];
         for number in numbers {
@@ -117,7 +123,7 @@ pub fn run(of: &str, seed: u64, cases: u64) -> Result<Judged, String> {
                 return Err(format!("{of}: lines missing from case {number} of seed {seed} on"));
             }
             judge(&filling, &rest[..count], &rest[count..2 * count], &mut judged)
-                .map_err(|what| format!("{of}, seed {seed}: {what}"))?;
+                .map_err(|what| format!("{of}, seed {seed}: {what}\n{}", repeat(of, seed, number)))?;
             rest = &rest[2 * count..];
         }
         if !rest.is_empty() {
@@ -125,6 +131,10 @@ pub fn run(of: &str, seed: u64, cases: u64) -> Result<Judged, String> {
         }
     }
     Ok(judged)
+}
+
+fn repeat(of: &str, seed: u64, number: u64) -> String {
+    format!("repeat: {} demand3 '{of}' --seed {seed} --first {number} --cases 1", program::second())
 }
 
 fn judge(filling: &Filling, lines: &[String], reordered: &[String], judged: &mut Judged) -> Result<(), String> {

@@ -4,6 +4,11 @@ use std::io::{Read, Write};
 use std::process::{Command, Stdio};
 use std::thread;
 
+/// This program as it was called, so that a printed command can be given as it stands.
+pub fn second() -> String {
+    std::env::args().next().unwrap_or("second".to_string())
+}
+
 /// A path, or where no such file stands, a path and arguments with spaces between.
 fn command(program: &str) -> Command {
     if std::path::Path::new(program).exists() {

@@ -7,18 +7,19 @@ use super::{answers_of_bytes, edges};
 use crate::generate::case::Case;
 use crate::generate::{self, proof_table, FULL_640, TOO_LONG_640};
 use crate::record::list::unit_list;
+use crate::stream::{BROKEN, HEADER};
 use crate::switch::Right;
 use std::{fs, io, path::Path};
 
 pub const SEED: u64 = 730;
-/// The stored stream is at most this long.
-const BYTES: usize = 3_000_000;
+/// So many cases are stored.
+pub const CASES: usize = 3_500;
 /// Cases looked through for those that show something new.
 const LOOKED_THROUGH: u64 = 12_000;
 /// A case shows something new while what it shows was seen fewer times than this.
 const TIMES: u64 = 3;
-/// The rest is filled up with cases no longer than this.
-const FILLING_BYTES: usize = 2_500;
+/// The rest is filled up with cases no longer than this, since all of them stand in the repository.
+const FILLING_BYTES: usize = 1_000;
 const UNIT_FILES: u64 = 400;
 
 /// K1 to K15 first; a table that is full and one that is too long; cases that show or tell something new; others.
@@ -36,14 +37,8 @@ pub fn cases() -> Vec<Case> {
             others.push(case);
         }
     }
-    let mut length: usize = cases.iter().map(|case| case.bytes().len()).sum();
-    for case in others {
-        length += case.bytes().len();
-        if length > BYTES {
-            break;
-        }
-        cases.push(case);
-    }
+    let room = CASES.saturating_sub(cases.len());
+    cases.extend(others.into_iter().take(room));
     cases
 }
 
@@ -53,20 +48,25 @@ fn write(dir: &Path, stdin: &[u8], stdout: &[u8]) -> io::Result<()> {
     fs::write(dir.join("stdout"), stdout)
 }
 
-pub fn answers(dir: &Path) -> io::Result<(usize, usize)> {
+/// The cases as a stream that breaks off inside the front of one more, and the lines that it gets.
+pub fn stream(cases: &[Case]) -> (Vec<u8>, Vec<u8>) {
     let (mut stdin, mut stdout) = (vec![], vec![]);
-    let cases = cases();
-    let mut entries = 0;
-    for case in &cases {
+    for case in cases {
         let bytes = case.bytes();
-        for answer in answers_of_bytes(Right, case, &bytes) {
-            answer.line(&mut stdout);
-            entries += 1;
-        }
+        answers_of_bytes(Right, case, &bytes).iter().for_each(|answer| answer.line(&mut stdout));
         stdin.extend(bytes);
     }
+    stdin.extend([0; HEADER / 2]);
+    stdout.extend(BROKEN);
+    (stdin, stdout)
+}
+
+pub fn answers(dir: &Path) -> io::Result<String> {
+    let cases = cases();
+    let entries: usize = cases.iter().map(|case| case.entries.len()).sum();
+    let (stdin, stdout) = stream(&cases);
     write(dir, &stdin, &stdout)?;
-    Ok((cases.len(), entries))
+    Ok(format!("{} cases, {entries} entries, {} bytes", cases.len(), stdin.len()))
 }
 
 /// Streams long enough to be left to `second edges`.
