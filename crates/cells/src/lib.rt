@@ -5,6 +5,12 @@ ghost use lib.ListN.{length};
 ghost use Rattle.guideline.specs.Bytes.{word, cell, whole-rows};
 
 pub mod part;
+pub mod t640;
+pub mod t641;
+pub mod t642;
+pub mod t643;
+pub mod t649;
+pub mod t730;
 
 fn wide(x: u8) -> u32
     ensures { λ r. ⌜ (r ≡ x) × (r < 256) ⌝ }
@@ -42,4 +48,10 @@ pub fn whole(t: &[u8], width: usize) -> bool
     let row = width * 4;
     let rows = t.len() / row;
     guideline::both(t.len() % row == 0, rows <= MOST_ROWS)
+}
+
+// How many rows have a property, and the place of the last of them.
+pub struct Tally {
+    pub count: usize,
+    pub last: usize,
 }

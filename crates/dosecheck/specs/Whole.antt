@@ -30,9 +30,9 @@ use Rattle.selection.specs.declared.Rule.{Rule}
 use Rattle.selection.specs.declared.Selection.{Selection}
 use Rattle.selection.specs.declared.Selection.the-variants.{Chosen as TheRule, Refused as NoRule}
 use Rattle.selection.specs.Selecting.{rule-of, selected, step-refused, step-chosen}
-use Rattle.dosecheck.specs.declared.sound.Soundness.{Soundness}
-use Rattle.dosecheck.specs.declared.sound.Soundness.the-variants.{Sound, Refused as Unsound}
-use Rattle.dosecheck.specs.Soundly.{soundness, outcome-of, sound-run, sound-649}
+use Rattle.ranges.specs.declared.sound.Soundness.{Soundness}
+use Rattle.ranges.specs.declared.sound.Soundness.the-variants.{Sound, Refused as Unsound}
+use Rattle.ranges.specs.Soundly.{soundness, outcome-of, sound-run, sound-649}
 
 abbrev pub refusal-unit : Converted → Refusal
 refusal-unit (Exact q) = Ends EntryOutOfRange

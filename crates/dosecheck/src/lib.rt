@@ -1,21 +1,19 @@
-// The dose check: steps 1 and 12 of document 01, and the whole.
+// The dose check: the twelve steps of document 01 as one call, and the eight numbers of its answer.
 ghost use mathlib.Core.Path.{_≡_};
 ghost use Rattle.guideline.specs.Bytes.{spelled};
 ghost use Rattle.guideline.specs.Check.{check};
-ghost use Rattle.dosecheck.specs.Soundly.{soundness, reason-of};
+ghost use Rattle.ranges.specs.Soundly.{soundness, reason-of};
 ghost use Rattle.dosecheck.specs.Whole.{refusal-unit, refusal-rule, reached-rule};
 use guideline::Answer;
 use guideline::Entry;
 use guideline::Reached;
 use guideline::Reason;
 use guideline::Refusal;
+use ranges::sound::Soundness;
 use selection::Selection;
-use sound::Soundness;
 use units::Converted;
 
 pub mod answer;
-pub mod entry;
-pub mod sound;
 
 // Where a step has chosen there is no refusal, and nobody asks.
 fn reason_of(s: Soundness) -> Reason
@@ -78,7 +76,7 @@ pub fn check_after(
     requires { ⌜ s ≡ soundness (spelled (record { b640 = now t640; b641 = now t641; b642 = now t642; b643 = now t643; b649 = now t649; b730 = now t730 })) ⌝ }
     ensures { λ r. ⌜ r ≡ check (spelled (record { b640 = now (t640 .entry); b641 = now (t641 .entry); b642 = now (t642 .entry); b643 = now (t643 .entry); b649 = now (t649 .entry); b730 = now (t730 .entry) })) e ⌝ }
 {
-    if !entry::in_range(e) {
+    if !ranges::entry::in_range(e) {
         return answer::refused(Refusal::Ends(Reason::EntryOutOfRange), nothing());
     }
     let Soundness::Sound = s else {
@@ -109,6 +107,6 @@ pub fn check(
 ) -> Answer
     ensures { λ r. ⌜ r ≡ check (spelled (record { b640 = now (t640 .entry); b641 = now (t641 .entry); b642 = now (t642 .entry); b643 = now (t643 .entry); b649 = now (t649 .entry); b730 = now (t730 .entry) })) e ⌝ }
 {
-    let s = sound::tables_sound(t640, t641, t642, t643, t649, t730);
+    let s = ranges::sound::tables_sound(t640, t641, t642, t643, t649, t730);
     check_after(s, t640, t641, t642, t643, t649, t730, e)
 }

@@ -1,34 +1,18 @@
 -- What the code asks of a table: each test as the property of a row that it stands for.
 use Prim.Native.Nat.{ℕ}
 use mathlib.Core.Path.{_≡_}
-use mathlib.Core.Bool.{Bool, true, false, not, _&&_}
+use mathlib.Core.Bool.{Bool, false, _&&_}
 use borrow.Author.Tests.{ne-eqb}
 use lib.Dec.{eqb}
-use Rattle.guideline.specs.declared.Row640.{Row640}
 use Rattle.guideline.specs.declared.Row641.{Row641}
 use Rattle.guideline.specs.declared.Row642.{Row642}
 use Rattle.guideline.specs.declared.Row643.{Row643}
-use Rattle.guideline.specs.declared.Row649.{Row649}
-use Rattle.guideline.specs.declared.Row730.{Row730}
 use Rattle.guideline.specs.Table.{every}
-use Rattle.guideline.specs.Rows.{sound640, sound643, sound649, sound730}
-use Rattle.guideline.specs.Steps.{unit-row, gpk-row, of-gpk, hpk-level, prk-level, base-level, of-basis, of-care, of-reason, of-route, of-category, rule-row}
-use Rattle.tables.specs.declared.t640.Test640.{Test640}
-use Rattle.tables.specs.declared.t640.Test640.the-variants.{Gpk, Unsound as Unsound640}
+use Rattle.guideline.specs.Steps.{of-gpk, hpk-level, prk-level, base-level, of-basis, of-care, of-reason, of-route, of-category}
 use Rattle.tables.specs.declared.t641.Test641.{Test641}
 use Rattle.tables.specs.declared.t641.Test641.the-variants.{HpkLevel, Hpk, PrkLevel, Prk, BaseLevel}
 use Rattle.tables.specs.declared.t642.Test642.{Test642}
 use Rattle.tables.specs.declared.t642.Test642.the-variants.{Care, Reason, Route}
-use Rattle.tables.specs.declared.t643.Test643.{Test643}
-use Rattle.tables.specs.declared.t643.Test643.the-variants.{Category, Unsound as Unsound643}
-use Rattle.tables.specs.declared.t649.Test649.{Test649}
-use Rattle.tables.specs.declared.t649.Test649.the-variants.{Rule, Unsound as Unsound649}
-use Rattle.tables.specs.declared.t730.Test730.{Test730}
-use Rattle.tables.specs.declared.t730.Test730.the-variants.{Unit as OfUnit, Unsound as Unsound730}
-
-abbrev pub test640 : Test640 → Row640 → Bool
-test640 (Gpk gpk) r = gpk-row gpk r
-test640 Unsound640 r = not (sound640 r)
 
 -- among the rows of a GPK
 abbrev pub test641 : Test641 → Row641 → Bool
@@ -74,14 +58,5 @@ other-basis (Care basis s) r h = rw (ne-eqb (r .gpdbas) basis h)
 other-basis (Reason basis s) r h = rw (ne-eqb (r .gpdbas) basis h)
 other-basis (Route basis s) r h = rw (ne-eqb (r .gpdbas) basis h)
 
-abbrev pub test643 : Test643 → Row643 → Bool
-test643 (Category category) r = of-category category r && every r
-test643 Unsound643 r = not (sound643 r)
-
-abbrev pub test649 : Test649 → Row649 → Bool
-test649 (Rule rule) r = rule-row rule r
-test649 Unsound649 r = not (sound649 r)
-
-abbrev pub test730 : Test730 → Row730 → Bool
-test730 (OfUnit srtcde code unit) r = unit-row srtcde code unit r
-test730 Unsound730 r = not (sound730 r)
+abbrev pub test643 : ℕ → Row643 → Bool
+test643 category r = of-category category r && every r

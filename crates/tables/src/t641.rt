@@ -1,24 +1,19 @@
-// Table 641: GPKODE, PRKODE, HPKODE, GPDCOD, GPDBAS.
+// Table 641: the rows of a GPK.
 ghost use mathlib.Core.Path.{_≡_};
-ghost use Prim.Native.Nat.{_/_, _<_};
+ghost use Prim.Native.Nat.{_/_};
 ghost use lib.ListN.{length};
 ghost use Rattle.guideline.specs.Bytes.{cell, row641, width641};
-ghost use Rattle.guideline.specs.Rows.{sound641};
 ghost use Rattle.guideline.specs.Table.{some, among};
-ghost use Rattle.guideline.specs.Steps.{all-rows, hpk-level, prk-level, of-gpk};
-ghost use Rattle.tables.specs.Tally.{tallied};
+ghost use Rattle.guideline.specs.Steps.{hpk-level, prk-level, of-gpk};
+ghost use Rattle.cells.specs.Tally.{tallied};
 ghost use Rattle.tables.specs.Tests.{test641, key641};
-ghost use Rattle.tables.specs.Lents.{rows641, found641};
-use crate::Tally;
-use guideline::Range;
+ghost use Rattle.cells.specs.Lents.{rows641};
+ghost use Rattle.tables.specs.Found.{found641};
+use cells::Tally;
+use cells::t641;
 use guideline::Row641;
 
-// How many numbers of 32 bits a row has, and how many bytes.
-pub const WIDTH: usize = 5;
-
-pub const ROW: usize = 20;
-
-// Which of them is GPKODE, the key.
+// Which of its numbers is GPKODE, the key.
 const KEY: usize = 0;
 
 // What may be asked of a row.
@@ -34,19 +29,6 @@ pub enum Found641 {
     Nothing,
     One(Row641),
     Many(usize),
-}
-
-fn row(t: &[u8], row: usize) -> Row641
-    requires { ⌜ row < length (now t) / 20 ⌝ }
-    ensures { λ r. ⌜ r ≡ row641 (cell width641 (now (t .entry)) row) ⌝ }
-{
-    Row641 {
-        gpkode: cells::cell(t, WIDTH, row, 0),
-        prkode: cells::cell(t, WIDTH, row, 1),
-        hpkode: cells::cell(t, WIDTH, row, 2),
-        gpdcod: cells::cell(t, WIDTH, row, 3),
-        gpdbas: cells::cell(t, WIDTH, row, 4),
-    }
 }
 
 // Rows with GPDCOD 2 and HPKODE above 0.
@@ -70,25 +52,7 @@ fn prk_level(r: Row641) -> bool
 pub fn of_gpk(t: &[u8], gpk: u32) -> &[u8]
     ensures { λ r. ⌜ among (of-gpk gpk) (rows641 (now r)) ≡ among (of-gpk gpk) (rows641 (now (t .entry))) ⌝ }
 {
-    cells::part::part(t, WIDTH, KEY, gpk)
-}
-
-fn in_range(r: Row641) -> bool
-    ensures { λ b. ⌜ b ≡ sound641 r ⌝ }
-{
-    guideline::both(
-        Range::codes().holds(r.gpkode),
-        guideline::both(
-            Range::codes().holds(r.prkode),
-            guideline::both(
-                Range::codes().holds(r.hpkode),
-                guideline::both(
-                    Range::levels().holds(r.gpdcod),
-                    Range::codes_from_1().holds(r.gpdbas),
-                ),
-            ),
-        ),
-    )
+    cells::part::part(t, t641::WIDTH, KEY, gpk)
 }
 
 fn passes(r: Row641, test: Test641) -> bool
@@ -126,7 +90,7 @@ fn key(test: Test641) -> u32
 fn tally(t: &[u8], test: Test641) -> Tally
     ensures { λ r. ⌜ r ≡ tallied (λ i. test641 test (row641 (cell width641 (now (t .entry)) i))) (length (now (t .entry)) / 20) ⌝ }
 {
-    let rows = t.len() / ROW;
+    let rows = t.len() / t641::ROW;
     let gpk = key(test);
     let mut count: usize = 0;
     let mut last: usize = 0;
@@ -134,8 +98,8 @@ fn tally(t: &[u8], test: Test641) -> Tally
     while i < rows {
         let here = i;
         i += 1;
-        if cells::cell(t, WIDTH, here, 0) == gpk {
-            if passes(row(t, here), test) {
+        if cells::cell(t, t641::WIDTH, here, KEY) == gpk {
+            if passes(t641::row(t, here), test) {
                 count += 1;
                 last = here;
             }
@@ -152,7 +116,7 @@ pub fn ask(t: &[u8], test: Test641) -> Found641
     let count = tally.count;
     match count {
         0 => Found641::Nothing,
-        1 => Found641::One(row(t, tally.last)),
+        1 => Found641::One(t641::row(t, tally.last)),
         _ => Found641::Many(count),
     }
 }
@@ -163,19 +127,4 @@ pub fn any(t: &[u8], test: Test641) -> bool
 {
     let tally = tally(t, test);
     tally.count != 0
-}
-
-// 122: is each field of each row in its range?
-pub fn all_in_range(t: &[u8]) -> bool
-    ensures { λ r. ⌜ r ≡ all-rows sound641 (rows641 (now (t .entry))) ⌝ }
-{
-    let rows = t.len() / ROW;
-    let mut i: usize = 0;
-    while i < rows {
-        if !in_range(row(t, i)) {
-            return false;
-        }
-        i += 1;
-    }
-    true
 }

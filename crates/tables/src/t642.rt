@@ -1,25 +1,20 @@
-// Table 642: GPDBAS, GPDZCO, ICPCNR1, ICPCTO, GPKTWG, GPDCAT.
+// Table 642: the rows of a basis.
 ghost use mathlib.Core.Path.{_≡_};
-ghost use Prim.Native.Nat.{_/_, _<_};
+ghost use Prim.Native.Nat.{_/_};
 ghost use lib.ListN.{length};
 ghost use Rattle.guideline.specs.Bytes.{cell, row642, width642};
-ghost use Rattle.guideline.specs.Rows.{sound642};
 ghost use Rattle.guideline.specs.Table.{some, among};
-ghost use Rattle.guideline.specs.Steps.{all-rows, of-reason, of-basis};
-ghost use Rattle.tables.specs.Tally.{tallied};
+ghost use Rattle.guideline.specs.Steps.{of-reason, of-basis};
+ghost use Rattle.cells.specs.Tally.{tallied};
 ghost use Rattle.tables.specs.Tests.{test642, key642};
-ghost use Rattle.tables.specs.Lents.{rows642, found642};
-use crate::Tally;
-use guideline::Range;
+ghost use Rattle.cells.specs.Lents.{rows642};
+ghost use Rattle.tables.specs.Found.{found642};
+use cells::Tally;
+use cells::t642;
 use guideline::Row642;
 use guideline::Setting;
 
-// How many numbers of 32 bits a row has, and how many bytes.
-pub const WIDTH: usize = 6;
-
-pub const ROW: usize = 24;
-
-// Which of them is GPDBAS, the key.
+// Which of its numbers is GPDBAS, the key.
 const KEY: usize = 0;
 
 // What may be asked of a row.
@@ -35,20 +30,6 @@ pub enum Found642 {
     Many(usize),
 }
 
-fn row(t: &[u8], row: usize) -> Row642
-    requires { ⌜ row < length (now t) / 24 ⌝ }
-    ensures { λ r. ⌜ r ≡ row642 (cell width642 (now (t .entry)) row) ⌝ }
-{
-    Row642 {
-        gpdbas: cells::cell(t, WIDTH, row, 0),
-        gpdzco: cells::cell(t, WIDTH, row, 1),
-        icpcnr1: cells::cell(t, WIDTH, row, 2),
-        icpcto: cells::cell(t, WIDTH, row, 3),
-        gpktwg: cells::cell(t, WIDTH, row, 4),
-        gpdcat: cells::cell(t, WIDTH, row, 5),
-    }
-}
-
 fn of_reason(r: Row642, s: Setting) -> bool
     ensures { λ b. ⌜ b ≡ of-reason (s .reason) (s .icpcto) r ⌝ }
 {
@@ -59,28 +40,7 @@ fn of_reason(r: Row642, s: Setting) -> bool
 pub fn of_basis(t: &[u8], basis: u32) -> &[u8]
     ensures { λ r. ⌜ among (of-basis basis) (rows642 (now r)) ≡ among (of-basis basis) (rows642 (now (t .entry))) ⌝ }
 {
-    cells::part::part(t, WIDTH, KEY, basis)
-}
-
-fn in_range(r: Row642) -> bool
-    ensures { λ b. ⌜ b ≡ sound642 r ⌝ }
-{
-    guideline::both(
-        Range::codes_from_1().holds(r.gpdbas),
-        guideline::both(
-            Range::care_groups().holds(r.gpdzco),
-            guideline::both(
-                Range::codes().holds(r.icpcnr1),
-                guideline::both(
-                    Range::icpctos().holds(r.icpcto),
-                    guideline::both(
-                        Range::codes().holds(r.gpktwg),
-                        Range::codes_from_1().holds(r.gpdcat),
-                    ),
-                ),
-            ),
-        ),
-    )
+    cells::part::part(t, t642::WIDTH, KEY, basis)
 }
 
 fn passes(r: Row642, test: Test642) -> bool
@@ -117,7 +77,7 @@ fn key(test: Test642) -> u32
 fn tally(t: &[u8], test: Test642) -> Tally
     ensures { λ r. ⌜ r ≡ tallied (λ i. test642 test (row642 (cell width642 (now (t .entry)) i))) (length (now (t .entry)) / 24) ⌝ }
 {
-    let rows = t.len() / ROW;
+    let rows = t.len() / t642::ROW;
     let basis = key(test);
     let mut count: usize = 0;
     let mut last: usize = 0;
@@ -125,8 +85,8 @@ fn tally(t: &[u8], test: Test642) -> Tally
     while i < rows {
         let here = i;
         i += 1;
-        if cells::cell(t, WIDTH, here, 0) == basis {
-            if passes(row(t, here), test) {
+        if cells::cell(t, t642::WIDTH, here, KEY) == basis {
+            if passes(t642::row(t, here), test) {
                 count += 1;
                 last = here;
             }
@@ -143,7 +103,7 @@ pub fn ask(t: &[u8], test: Test642) -> Found642
     let count = tally.count;
     match count {
         0 => Found642::Nothing,
-        1 => Found642::One(row(t, tally.last)),
+        1 => Found642::One(t642::row(t, tally.last)),
         _ => Found642::Many(count),
     }
 }
@@ -154,19 +114,4 @@ pub fn any(t: &[u8], test: Test642) -> bool
 {
     let tally = tally(t, test);
     tally.count != 0
-}
-
-// 122: is each field of each row in its range?
-pub fn all_in_range(t: &[u8]) -> bool
-    ensures { λ r. ⌜ r ≡ all-rows sound642 (rows642 (now (t .entry))) ⌝ }
-{
-    let rows = t.len() / ROW;
-    let mut i: usize = 0;
-    while i < rows {
-        if !in_range(row(t, i)) {
-            return false;
-        }
-        i += 1;
-    }
-    true
 }

@@ -14,7 +14,7 @@ use Rattle.guideline.specs.Ask.{Step, Done, Chosen, run, _>>=_, _>>_}
 use Rattle.guideline.specs.Table.{Table, Hits, None, One, Many}
 use Rattle.guideline.specs.Values.{amount-zero, amount-large}
 use Rattle.guideline.specs.Steps.{Prescription, when, refuse, demand, choose, one, unit-row, one-to-one, ratio}
-use Rattle.tables.specs.Lents.{found730}
+use Rattle.tables.specs.Found.{found730}
 use Rattle.units.specs.declared.Taken.{Taken}
 use Rattle.units.specs.declared.Taken.the-variants.{Row, Refused as NotTaken}
 use Rattle.units.specs.declared.Converted.{Converted}

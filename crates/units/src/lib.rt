@@ -2,9 +2,9 @@
 ghost use mathlib.Core.Path.{_≡_};
 ghost use Rattle.guideline.specs.Ask.{run};
 ghost use Rattle.guideline.specs.Check.{datum, prescription};
-ghost use Rattle.guideline.specs.Steps.{ratio, one-to-one, above, below, high, low, comparison};
-ghost use Rattle.tables.specs.Lents.{rows730, found730};
-ghost use Rattle.tables.specs.Tests.{test730};
+ghost use Rattle.guideline.specs.Steps.{unit-row, ratio, one-to-one, above, below, high, low, comparison};
+ghost use Rattle.cells.specs.Lents.{rows730};
+ghost use Rattle.tables.specs.Found.{found730};
 ghost use Rattle.units.specs.Converting.{converted, taken, handed-on, of-amounts};
 ghost use Rattle.units.specs.Comparing.{Products, Comparable};
 use guideline::Amount;
@@ -16,7 +16,6 @@ use guideline::Refusal;
 use guideline::Row649;
 use guideline::Row730;
 use tables::t730::Found730;
-use tables::t730::Test730;
 
 // What step 2 comes to.
 pub enum Converted {
@@ -31,10 +30,10 @@ enum Taken {
 }
 
 // The one row of a unit: none 126, several 123.
-fn take(t730: &[u8], unit: Test730, none: Reason, several: Reason) -> Taken
-    ensures { λ r. ⌜ r ≡ taken (found730 (rows730 (now (t730 .entry)) (test730 unit))) none several ⌝ }
+fn take(t730: &[u8], e: Entry, unit: u32, none: Reason, several: Reason) -> Taken
+    ensures { λ r. ⌜ r ≡ taken (found730 (rows730 (now (t730 .entry)) (unit-row (e .srtcde) (e .code) unit))) none several ⌝ }
 {
-    let found = tables::t730::ask(t730, unit);
+    let found = tables::t730::ask(t730, e.srtcde, e.code, unit);
     match found {
         Found730::Nothing => Taken::Refused(Refusal::Ends(none)),
         Found730::One(row) => Taken::Row(row),
@@ -88,7 +87,8 @@ pub fn ratio(t730: &[u8], e: Entry) -> Converted
     let part = tables::t730::of_code(t730, e.code);
     let base = take(
         part,
-        Test730::Unit(e.srtcde, e.code, e.base),
+        e,
+        e.base,
         Reason::BaseUnitAbsent,
         Reason::BaseUnitSeveral,
     );
@@ -97,7 +97,8 @@ pub fn ratio(t730: &[u8], e: Entry) -> Converted
     };
     let entered = take(
         part,
-        Test730::Unit(e.srtcde, e.code, e.entered),
+        e,
+        e.entered,
         Reason::EnteredUnitAbsent,
         Reason::EnteredUnitSeveral,
     );

@@ -13,11 +13,11 @@ use Rattle.guideline.specs.Ask.{run}
 use Rattle.guideline.specs.Bytes.{Lents, spelled, lent}
 use Rattle.guideline.specs.Steps.{ratio, selection}
 use Rattle.guideline.specs.Check.{datum, prescription, refused, compared}
-use Rattle.tables.specs.Lents.{rows, rows730}
+use Rattle.cells.specs.Lents.{rows, rows730}
 use Rattle.units.proofs.InRange.{converted-in-range}
 use Rattle.units.proofs.Sound.{comparable}
-use Rattle.dosecheck.specs.Entries.{prescription-fine}
-use Rattle.dosecheck.specs.Soundly.{reason-of}
+use Rattle.ranges.specs.Entries.{prescription-fine}
+use Rattle.ranges.specs.Soundly.{reason-of}
 use Rattle.dosecheck.specs.Whole.{refusal-unit, refusal-rule, reached-rule, unit-told, rule-told, without-730, selection-without-730, limits-sound, ends-at-125, ends-at-1, ends-at-2, ends-at-selection, ends-at-12}
 use Rattle.dosecheck.proofs.check_after.Statement.{statement}
 use Rattle.dosecheck.proofs.check_after.Tie as tie

@@ -3,7 +3,7 @@ use borrow.Author.Needs.{needs}
 use borrow.Author.Tests.{eq-eqb, ne-eqb}
 use denote.Ref.{now}
 use Rattle.guideline.specs.Check.{datum, prescription}
-use Rattle.tables.specs.Lents.{rows730}
+use Rattle.cells.specs.Lents.{rows730}
 use Rattle.units.proofs.Plan.{same-unit, other-unit}
 use Rattle.units.proofs.ratio.Statement.{statement}
 use Rattle.units.proofs.ratio.Tie as tie

@@ -5,10 +5,11 @@ use native.Mathlib.Omega.{arith}
 use denote.Ref.{now}
 use Rattle.guideline.specs.Bytes.{row641, width641}
 use Rattle.tables.specs.declared.t641.Found641.the-variants.{One}
-use Rattle.tables.specs.declared.Tally.{Tally}
-use Rattle.tables.specs.Tally.{last-below}
+use Rattle.cells.specs.declared.Tally.{Tally}
+use Rattle.cells.specs.Tally.{last-below}
 use Rattle.tables.specs.Tests.{test641}
-use Rattle.tables.specs.Lents.{found641, rows-told, told-none, told-one, told-many}
+use Rattle.tables.specs.Found.{found641}
+use Rattle.cells.specs.Lents.{rows-told, told-none, told-one, told-many}
 use Rattle.tables.proofs.t641.ask.Statement.{statement}
 use Rattle.tables.proofs.t641.ask.Tie as tie
 

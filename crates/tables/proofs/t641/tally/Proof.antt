@@ -5,7 +5,7 @@ use mathlib.Core.Path.{sym, _∙_, ap}
 use native.Mathlib.Omega.{arith}
 use denote.Ref.{now}
 use Rattle.guideline.specs.Bytes.{cell, row641, width641}
-use Rattle.tables.specs.Tally.{Tallying, tallying-none, tallying-hit, tallying-miss, tallying-all}
+use Rattle.cells.specs.Tally.{Tallying, tallying-none, tallying-hit, tallying-miss, tallying-all}
 use Rattle.tables.specs.Tests.{test641, other-gpk}
 use Rattle.tables.proofs.t641.tally.Statement.{statement}
 use Rattle.tables.proofs.t641.tally.Tie as tie

@@ -4,7 +4,7 @@ use mathlib.Core.Path.{sym}
 use denote.Ref.{now}
 use Rattle.guideline.specs.Bytes.{row642, width642}
 use Rattle.tables.specs.Tests.{test642}
-use Rattle.tables.specs.Lents.{rows-some}
+use Rattle.cells.specs.Lents.{rows-some}
 use Rattle.tables.proofs.t642.any.Statement.{statement}
 use Rattle.tables.proofs.t642.any.Tie as tie
 

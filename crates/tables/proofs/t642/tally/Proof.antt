@@ -5,7 +5,7 @@ use mathlib.Core.Path.{sym, _∙_, ap}
 use native.Mathlib.Omega.{arith}
 use denote.Ref.{now}
 use Rattle.guideline.specs.Bytes.{cell, row642, width642}
-use Rattle.tables.specs.Tally.{Tallying, tallying-none, tallying-hit, tallying-miss, tallying-all}
+use Rattle.cells.specs.Tally.{Tallying, tallying-none, tallying-hit, tallying-miss, tallying-all}
 use Rattle.tables.specs.Tests.{test642, other-basis}
 use Rattle.tables.proofs.t642.tally.Statement.{statement}
 use Rattle.tables.proofs.t642.tally.Tie as tie

@@ -4,11 +4,13 @@ use mathlib.Core.Path.{sym, _∙_, ap}
 use native.Mathlib.Omega.{arith}
 use denote.Ref.{now}
 use Rattle.guideline.specs.Bytes.{row649, width649}
+use Rattle.guideline.specs.Steps.{rule-row}
 use Rattle.tables.specs.declared.t649.Found649.the-variants.{One}
-use Rattle.tables.specs.declared.Tally.{Tally}
-use Rattle.tables.specs.Tally.{last-below}
-use Rattle.tables.specs.Tests.{test649}
-use Rattle.tables.specs.Lents.{found649, rows-told, told-none, told-one, told-many}
+use Rattle.cells.specs.declared.Tally.{Tally}
+use Rattle.cells.specs.Tally.{last-below}
+use Rattle.tables.specs.Found.{found649}
+use Rattle.tables.specs.Parts.{part649}
+use Rattle.cells.specs.Lents.{rows-told, told-none, told-one, told-many}
 use Rattle.tables.proofs.t649.ask.Statement.{statement}
 use Rattle.tables.proofs.t649.ask.Tie as tie
 
@@ -19,18 +21,18 @@ row-requires c κs =
 
 returns : tie.Need-returns
 returns c =
-    let a = c .before .before .before .args in
-    sym (ap found649 (rows-told width649 row649 (now (a .t)) (test649 (a .test)) (c .before .tally .ensures) ∙ told-none _ (c .match .keys1)))
+    let a = c .before .before .before .before .args in
+    sym (ap found649 (sym (part649 (c .before .before .part .ensures)) ∙ rows-told width649 row649 (now (c .before .before .part .result)) (rule-row (a .rule)) (c .before .tally .ensures) ∙ told-none _ (c .match .keys1)))
 
 returns-2 : tie.Need-returns-2
 returns-2 c =
-    let a = c .before .before .before .before .args in
-    sym (ap found649 (rows-told width649 row649 (now (a .t)) (test649 (a .test)) (c .before .before .tally .ensures) ∙ told-one _ (c .before .match .keys2)) ∙ ap One (sym (c .row .ensures)))
+    let a = c .before .before .before .before .before .args in
+    sym (ap found649 (sym (part649 (c .before .before .before .part .ensures)) ∙ rows-told width649 row649 (now (c .before .before .before .part .result)) (rule-row (a .rule)) (c .before .before .tally .ensures) ∙ told-one _ (c .before .match .keys2)) ∙ ap One (sym (c .row .ensures)))
 
 returns-3 : tie.Need-returns-3
 returns-3 c =
-    let a = c .before .before .before .args in
-    sym (ap found649 (rows-told width649 row649 (now (a .t)) (test649 (a .test)) (c .before .tally .ensures) ∙ told-many _ _ (c .match .rest .0 .1) (c .match .rest .1)))
+    let a = c .before .before .before .before .args in
+    sym (ap found649 (sym (part649 (c .before .before .part .ensures)) ∙ rows-told width649 row649 (now (c .before .before .part .result)) (rule-row (a .rule)) (c .before .tally .ensures) ∙ told-many _ _ (c .match .rest .0 .1) (c .match .rest .1)))
 
 pub ask-spec : {M : Type 1} → statement M
-ask-spec = tie.close (tie.spec (λ c κs. search needs) row-requires returns returns-2 returns-3)
+ask-spec = tie.close (tie.spec (λ c κs. search needs) (λ c κs. search needs) row-requires returns returns-2 returns-3)

@@ -3,34 +3,37 @@ use borrow.Author.Needs.{needs}
 use Prim.Native.Nat.{_-_}
 use mathlib.Core.Path.{sym, _∙_, ap}
 use native.Mathlib.Omega.{arith}
+use borrow.Author.Tests.{eq-eqb, ne-eqb}
 use denote.Ref.{now}
 use Rattle.guideline.specs.Bytes.{cell, row649, width649}
-use Rattle.tables.specs.Tally.{Tallying, tallying-none, tallying-hit, tallying-miss, tallying-all}
-use Rattle.tables.specs.Tests.{test649}
+use Rattle.guideline.specs.Steps.{rule-row}
+use Rattle.cells.specs.Tally.{Tallying, tallying-none, tallying-hit, tallying-miss, tallying-all}
 use Rattle.tables.proofs.t649.tally.Statement.{statement}
 use Rattle.tables.proofs.t649.tally.Tie as tie
 
 abbrev Inv-loop : tie.InvT-loop
-Inv-loop t test rows count₀ last₀ i₀ count last i = Tallying (λ j. test649 test (row649 (cell width649 t j))) rows i count last
+Inv-loop t rule rows count₀ last₀ i₀ count last i = Tallying (λ j. rule-row rule (row649 (cell width649 t j))) rows i count last
 
 abbrev μ-loop : tie.MeasureT-loop
-μ-loop t test rows count₀ last₀ i₀ count last i = rows - i
+μ-loop t rule rows count₀ last₀ i₀ count last i = rows - i
 
 loop-holds : tie.Need-loop-holds Inv-loop μ-loop
 loop-holds c = tallying-none _ _
 
 loop-again : tie.Need-loop-again Inv-loop μ-loop
+unfolding rule-row
 loop-again c =
-    let a = c .before .before .before .before .before .before .args in
-    tallying-hit (λ j. test649 (a .test) (row649 (cell width649 (now (a .t)) j))) (c .before .before .before .before .loop .inv) (omega arith) (ap (test649 (a .test)) (sym (c .before .before .row .ensures)) ∙ sym (c .before .passes .ensures) ∙ c .if1 .taken)
+    let a = c .before .before .before .before .before .args in
+    tallying-hit (λ j. rule-row (a .rule) (row649 (cell width649 (now (a .t)) j))) (c .before .before .before .loop .inv) (omega arith) (rw (eq-eqb _ _ (sym (c .before .cell .ensures) ∙ c .if1 .taken)))
 
 loop-again-2 : tie.Need-loop-again-2 Inv-loop μ-loop
+unfolding rule-row
 loop-again-2 c =
-    let a = c .before .before .before .before .before .before .args in
-    tallying-miss (λ j. test649 (a .test) (row649 (cell width649 (now (a .t)) j))) (c .before .before .before .before .loop .inv) (omega arith) (ap (test649 (a .test)) (sym (c .before .before .row .ensures)) ∙ sym (c .before .passes .ensures) ∙ c .if1 .left)
+    let a = c .before .before .before .before .before .args in
+    tallying-miss (λ j. rule-row (a .rule) (row649 (cell width649 (now (a .t)) j))) (c .before .before .before .loop .inv) (omega arith) (rw (ne-eqb (cell width649 (now (a .t)) (c .before .before .before .loop .i) 0) (a .rule) (λ same. c .if1 .left (c .before .cell .ensures ∙ same))))
 
 returns : tie.Need-returns Inv-loop μ-loop
 returns c = tallying-all _ (c .before .loop .inv) (omega arith)
 
 pub tally-spec : {M : Type 1} → statement M
-tally-spec = tie.close (tie.spec Inv-loop μ-loop loop-holds (λ c. search needs) (λ c κs. search needs) (λ c κs. search needs) (λ c. search needs) (λ c. search needs) loop-again (λ c. search needs) loop-again-2 returns)
+tally-spec = tie.close (tie.spec Inv-loop μ-loop loop-holds (λ c. search needs) (λ c κs. search needs) (λ c. search needs) (λ c. search needs) loop-again (λ c. search needs) loop-again-2 returns)

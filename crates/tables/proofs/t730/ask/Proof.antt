@@ -5,10 +5,11 @@ use native.Mathlib.Omega.{arith}
 use denote.Ref.{now}
 use Rattle.guideline.specs.Bytes.{row730, width730}
 use Rattle.tables.specs.declared.t730.Found730.the-variants.{One}
-use Rattle.tables.specs.declared.Tally.{Tally}
-use Rattle.tables.specs.Tally.{last-below}
-use Rattle.tables.specs.Tests.{test730}
-use Rattle.tables.specs.Lents.{found730, rows-told, told-none, told-one, told-many}
+use Rattle.cells.specs.declared.Tally.{Tally}
+use Rattle.cells.specs.Tally.{last-below}
+use Rattle.guideline.specs.Steps.{unit-row}
+use Rattle.tables.specs.Found.{found730}
+use Rattle.cells.specs.Lents.{rows-told, told-none, told-one, told-many}
 use Rattle.tables.proofs.t730.ask.Statement.{statement}
 use Rattle.tables.proofs.t730.ask.Tie as tie
 
@@ -20,17 +21,17 @@ row-requires c κs =
 returns : tie.Need-returns
 returns c =
     let a = c .before .before .before .args in
-    sym (ap found730 (rows-told width730 row730 (now (a .t)) (test730 (a .test)) (c .before .tally .ensures) ∙ told-none _ (c .match .keys1)))
+    sym (ap found730 (rows-told width730 row730 (now (a .t)) (unit-row (a .srtcde) (a .code) (a .unit)) (c .before .tally .ensures) ∙ told-none _ (c .match .keys1)))
 
 returns-2 : tie.Need-returns-2
 returns-2 c =
     let a = c .before .before .before .before .args in
-    sym (ap found730 (rows-told width730 row730 (now (a .t)) (test730 (a .test)) (c .before .before .tally .ensures) ∙ told-one _ (c .before .match .keys2)) ∙ ap One (sym (c .row .ensures)))
+    sym (ap found730 (rows-told width730 row730 (now (a .t)) (unit-row (a .srtcde) (a .code) (a .unit)) (c .before .before .tally .ensures) ∙ told-one _ (c .before .match .keys2)) ∙ ap One (sym (c .row .ensures)))
 
 returns-3 : tie.Need-returns-3
 returns-3 c =
     let a = c .before .before .before .args in
-    sym (ap found730 (rows-told width730 row730 (now (a .t)) (test730 (a .test)) (c .before .tally .ensures) ∙ told-many _ _ (c .match .rest .0 .1) (c .match .rest .1)))
+    sym (ap found730 (rows-told width730 row730 (now (a .t)) (unit-row (a .srtcde) (a .code) (a .unit)) (c .before .tally .ensures) ∙ told-many _ _ (c .match .rest .0 .1) (c .match .rest .1)))
 
 pub ask-spec : {M : Type 1} → statement M
 ask-spec = tie.close (tie.spec (λ c κs. search needs) row-requires returns returns-2 returns-3)

@@ -5,16 +5,16 @@ use mathlib.Core.Path.{sym, _∙_, ap}
 use native.Mathlib.Omega.{arith}
 use denote.Ref.{now}
 use Rattle.guideline.specs.Bytes.{cell, row730, width730}
-use Rattle.tables.specs.Tally.{Tallying, tallying-none, tallying-hit, tallying-miss, tallying-all}
-use Rattle.tables.specs.Tests.{test730}
+use Rattle.cells.specs.Tally.{Tallying, tallying-none, tallying-hit, tallying-miss, tallying-all}
+use Rattle.guideline.specs.Steps.{unit-row}
 use Rattle.tables.proofs.t730.tally.Statement.{statement}
 use Rattle.tables.proofs.t730.tally.Tie as tie
 
 abbrev Inv-loop : tie.InvT-loop
-Inv-loop t test rows count₀ last₀ i₀ count last i = Tallying (λ j. test730 test (row730 (cell width730 t j))) rows i count last
+Inv-loop t srtcde code unit rows count₀ last₀ i₀ count last i = Tallying (λ j. unit-row srtcde code unit (row730 (cell width730 t j))) rows i count last
 
 abbrev μ-loop : tie.MeasureT-loop
-μ-loop t test rows count₀ last₀ i₀ count last i = rows - i
+μ-loop t srtcde code unit rows count₀ last₀ i₀ count last i = rows - i
 
 loop-holds : tie.Need-loop-holds Inv-loop μ-loop
 loop-holds c = tallying-none _ _
@@ -22,12 +22,12 @@ loop-holds c = tallying-none _ _
 loop-again : tie.Need-loop-again Inv-loop μ-loop
 loop-again c =
     let a = c .before .before .before .before .before .before .args in
-    tallying-hit (λ j. test730 (a .test) (row730 (cell width730 (now (a .t)) j))) (c .before .before .before .before .loop .inv) (omega arith) (ap (test730 (a .test)) (sym (c .before .before .row .ensures)) ∙ sym (c .before .passes .ensures) ∙ c .if1 .taken)
+    tallying-hit (λ j. unit-row (a .srtcde) (a .code) (a .unit) (row730 (cell width730 (now (a .t)) j))) (c .before .before .before .before .loop .inv) (omega arith) (ap (unit-row (a .srtcde) (a .code) (a .unit)) (sym (c .before .before .row .ensures)) ∙ sym (c .before .is-unit .ensures) ∙ c .if1 .taken)
 
 loop-again-2 : tie.Need-loop-again-2 Inv-loop μ-loop
 loop-again-2 c =
     let a = c .before .before .before .before .before .before .args in
-    tallying-miss (λ j. test730 (a .test) (row730 (cell width730 (now (a .t)) j))) (c .before .before .before .before .loop .inv) (omega arith) (ap (test730 (a .test)) (sym (c .before .before .row .ensures)) ∙ sym (c .before .passes .ensures) ∙ c .if1 .left)
+    tallying-miss (λ j. unit-row (a .srtcde) (a .code) (a .unit) (row730 (cell width730 (now (a .t)) j))) (c .before .before .before .before .loop .inv) (omega arith) (ap (unit-row (a .srtcde) (a .code) (a .unit)) (sym (c .before .before .row .ensures)) ∙ sym (c .before .is-unit .ensures) ∙ c .if1 .left)
 
 returns : tie.Need-returns Inv-loop μ-loop
 returns c = tallying-all _ (c .before .loop .inv) (omega arith)
