@@ -12,10 +12,10 @@ use lib.ListN.{length, getD, drop, drop-of-length-le, length-drop}
 use lib.Seq.{drop-cons}
 use lib.Dec.{eqb}
 use Rattle.records.proofs.Bools.{and-true}
-use Rattle.unit_lines.specs.Line.{lineFeed}
+use Rattle.unit_line.specs.Line.{lineFeed}
 use Rattle.unit_lines.specs.Records.{crlf, carriageReturn}
 use Rattle.unit_lines.specs.Machine.{endIn}
-use Rattle.unit_lines.proofs.Cases.{true-or-false}
+use Rattle.unit_line.proofs.Cases.{true-or-false}
 use Rattle.unit_lines.proofs.Run.{end-here, end-on}
 
 and-false : (b : Bool) → false ≡ (b && false)

@@ -7,8 +7,8 @@ use native.Mathlib.Omega.{arith}
 use borrow.Author.Tests.{lt-ltb, le-ltb}
 use lib.ListN.{length}
 use lib.Dec.{ltb}
-use Rattle.unit_lines.specs.Line.{pick}
-use Rattle.unit_lines.specs.Put.{Put}
+use Rattle.unit_line.specs.Line.{pick}
+use Rattle.unit_line.specs.Put.{Put}
 use Rattle.unit_lines.specs.Records.{lineOf, linesOf}
 use Rattle.unit_lines.specs.Machine.{longestLine, lastLine, textOf}
 use Rattle.unit_lines.specs.Feeding.{Finishes}

@@ -1,7 +1,3 @@
-pub mod Cases
-pub mod Decimal
-pub mod Sets
-pub mod Pieces
 pub mod Longest
 pub mod GoOn
 pub mod Run

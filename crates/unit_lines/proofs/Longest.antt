@@ -12,11 +12,11 @@ use Rattle.records.specs.declared.Read730.the-variants.{Record, Refused}
 use Rattle.records.specs.declared.ReadRefusal.{ReadRefusal}
 use Rattle.records.specs.declared.ReadRefusal.the-variants.{Length, Fixed, Digit, Mutation}
 use Rattle.records.proofs.Bounds.{Bounds, read-bounds}
-use Rattle.unit_lines.specs.Line.{decimal, line, space, point, lineFeed}
+use Rattle.unit_line.specs.Line.{decimal, line, space, point, lineFeed}
 use Rattle.unit_lines.specs.Records.{lineOf}
 use Rattle.unit_lines.specs.Machine.{longestLine}
-use Rattle.unit_lines.proofs.Decimal.{decimal-most}
-use Rattle.unit_lines.proofs.Pieces.{length-row, length-amount, length-refused}
+use Rattle.unit_line.proofs.Decimal.{decimal-most}
+use Rattle.unit_line.proofs.Pieces.{length-row, length-amount, length-refused}
 
 field-most : (k n b : ℕ) → n < 10 ^ suc k → length (decimal n ++ (b ∷ [])) ≤ suc k + 1
 field-most k n b h = rw (length-append (decimal n) (b ∷ [])) (omega (arith, decimal-most k n h))

@@ -13,10 +13,10 @@ use Rattle.records.specs.Layout.{scan}
 use Rattle.records.specs.File730.{reading}
 use Rattle.records.specs.declared.Read730.the-variants.{Refused}
 use Rattle.records.specs.declared.ReadRefusal.the-variants.{Length}
-use Rattle.unit_lines.specs.Line.{line}
+use Rattle.unit_line.specs.Line.{line}
 use Rattle.unit_lines.specs.Records.{crlf, lineOf, linesOf, unlessEmpty}
 use Rattle.unit_lines.specs.Machine.{lastOf, butLast, goOn, keptMost, shrunk, noBytes, keep, textOf}
-use Rattle.unit_lines.proofs.Cases.{true-or-false, lt-or-ge}
+use Rattle.unit_line.proofs.Cases.{true-or-false, lt-or-ge}
 use Rattle.unit_lines.proofs.GoOn.{last-added, but-added, go-end, go-more}
 
 pub shrunk-short : (t : List ℕ) → length t ≤ keptMost → shrunk t ≡ t

@@ -4,7 +4,7 @@ use mathlib.Core.List.{List, [], _∷_, _++_}
 use lib.ListN.{length, getD, take, replicate}
 use lib.Seq.{sets}
 use lib.Dec.{ltb, leb}
-use Rattle.unit_lines.specs.Line.{pick}
+use Rattle.unit_line.specs.Line.{pick}
 use Rattle.unit_lines.specs.Records.{crlf, Parts, ending, lineOf, linesOf, unlessEmpty}
 use Rattle.unit_lines.specs.declared.text.ListMachine.{ListMachine}
 

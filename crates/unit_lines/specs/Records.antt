@@ -4,7 +4,7 @@ use mathlib.Core.Bool.{Bool, _&&_}
 use mathlib.Core.List.{List, [], _∷_, _++_}
 use lib.Dec.{eqb}
 use Rattle.records.specs.File730.{reading}
-use Rattle.unit_lines.specs.Line.{pick, lineFeed, line}
+use Rattle.unit_line.specs.Line.{pick, lineFeed, line}
 
 abbrev pub carriageReturn : ℕ
 carriageReturn = 13

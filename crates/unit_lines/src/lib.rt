@@ -1,5 +1,4 @@
 // The unit list of document 01: the line of a record, and the machine that lists an input in pieces.
-mod line;
 mod machine;
 mod text;
 

@@ -8,9 +8,9 @@ use native.Mathlib.Nat.{pow-suc, not-suc-le-zero}
 use borrow.Author.Tests.{lt-ltb, le-ltb}
 use lib.ListN.{length, set, length-append}
 use lib.Seq.{sets}
-use Rattle.unit_lines.specs.Line.{decimals, decimal}
-use Rattle.unit_lines.proofs.Cases.{lt-or-ge}
-use Rattle.unit_lines.proofs.Sets.{sets-last}
+use Rattle.unit_line.specs.Line.{decimals, decimal}
+use Rattle.unit_line.proofs.Cases.{lt-or-ge}
+use Rattle.unit_line.proofs.Sets.{sets-last}
 
 decimals-one : (k n : ℕ) → n < 10 → decimals (suc k) n ≡ (48 + n) ∷ []
 unfolding decimals

@@ -5,9 +5,9 @@ use borrow.Author.Needs.{needs}
 use denote.Ref.{now}
 use lib.ListN.{length, take, length-set}
 use lib.Seq.{sets, take-all}
-use Rattle.unit_lines.proofs.Sets.{sets-next}
-use Rattle.unit_lines.proofs.line.put_text.Statement.{statement}
-use Rattle.unit_lines.proofs.line.put_text.Tie as tie
+use Rattle.unit_line.proofs.Sets.{sets-next}
+use Rattle.unit_line.proofs.put_text.Statement.{statement}
+use Rattle.unit_line.proofs.put_text.Tie as tie
 
 abbrev Inv-loop : tie.InvT-loop
 Inv-loop out₀ at text i₀ out i = (i ≤ length text) × (length out ≡ length out₀) × (out ≡ sets out₀ at (take i text))

@@ -9,7 +9,7 @@ use Rattle.records.specs.Numbers.{readRefusal}
 use Rattle.records.specs.declared.Record730.{Record730}
 use Rattle.records.specs.declared.Read730.the-variants.{Record, Refused}
 use Rattle.records.specs.declared.ReadRefusal.{ReadRefusal}
-use Rattle.unit_lines.specs.Line.{decimal, amount, line, space, point, lineFeed}
+use Rattle.unit_line.specs.Line.{decimal, amount, line, space, point, lineFeed}
 
 abbrev pub threeDecimals : ℕ → List ℕ
 threeDecimals d = (48 + d / 10 / 10 % 10) ∷ (48 + d / 10 % 10) ∷ (48 + d % 10) ∷ space ∷ []

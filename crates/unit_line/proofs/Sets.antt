@@ -8,7 +8,7 @@ use native.Mathlib.Numerals.{add-one}
 use lib.ListN.{length, set, getD, take, length-append}
 use lib.Seq.{sets, set-comm, take-suc, length-take-le}
 use Rattle.records.proofs.Stores.{sets-append}
-use Rattle.unit_lines.specs.Put.{Put}
+use Rattle.unit_line.specs.Put.{Put}
 
 sets-after : (l : List ℕ) (i : ℕ) (vs : List ℕ) (j x : ℕ) → i + length vs ≤ j → set (sets l i vs) j x ≡ sets (set l j x) i vs
 sets-after l i [] j x h = refl

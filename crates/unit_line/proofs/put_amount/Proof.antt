@@ -1,13 +1,13 @@
 use Prim.Native.Nat.{_+_, _/_, _%_}
 use mathlib.Core.Path.{refl}
 use native.Mathlib.Omega.{arith}
-use Rattle.unit_lines.specs.Line.{space}
+use Rattle.unit_line.specs.Line.{space}
 use lib.ListN.{length-set}
-use Rattle.unit_lines.proofs.Pieces.{amount-pieces, length-amount}
-use Rattle.unit_lines.proofs.Sets.{put-on, sets-four}
+use Rattle.unit_line.proofs.Pieces.{amount-pieces, length-amount}
+use Rattle.unit_line.proofs.Sets.{put-on, sets-four}
 use borrow.Author.Needs.{needs}
-use Rattle.unit_lines.proofs.line.put_amount.Statement.{statement}
-use Rattle.unit_lines.proofs.line.put_amount.Tie as tie
+use Rattle.unit_line.proofs.put_amount.Statement.{statement}
+use Rattle.unit_line.proofs.put_amount.Tie as tie
 
 put-field-requires : tie.Need-put-field-requires
 put-field-requires c κs = omega (arith, length-amount (c .before .before .args .n))

@@ -1,6 +1,6 @@
 use borrow.Author.Needs.{needs}
-use Rattle.unit_lines.proofs.line.put_line.Statement.{statement}
-use Rattle.unit_lines.proofs.line.put_line.Tie as tie
+use Rattle.unit_line.proofs.put_line.Statement.{statement}
+use Rattle.unit_line.proofs.put_line.Tie as tie
 
 enum-known-v : tie.Need-enum-known-v
 enum-known-v c = search needs

@@ -4,10 +4,10 @@ use mathlib.Core.Path.{_≡_, refl, ap}
 use native.Mathlib.Omega.{arith}
 use borrow.Author.Needs.{needs}
 use lib.ListN.{length}
-use Rattle.unit_lines.specs.Line.{decimal}
-use Rattle.unit_lines.proofs.Decimal.{decimal-one, length-decimal-more, decimal-least, decimal-word}
-use Rattle.unit_lines.proofs.line.places.Statement.{statement}
-use Rattle.unit_lines.proofs.line.places.Tie as tie
+use Rattle.unit_line.specs.Line.{decimal}
+use Rattle.unit_line.proofs.Decimal.{decimal-one, length-decimal-more, decimal-least, decimal-word}
+use Rattle.unit_line.proofs.places.Statement.{statement}
+use Rattle.unit_line.proofs.places.Tie as tie
 
 abbrev Inv-loop : tie.InvT-loop
 Inv-loop n k₀ rest₀ k rest = (rest ≤ n) × (k + length (decimal rest) ≡ 1 + length (decimal n))

@@ -1,9 +1,9 @@
 use native.Mathlib.Omega.{arith}
-use Rattle.unit_lines.proofs.Pieces.{refused-pieces, length-refused}
-use Rattle.unit_lines.proofs.Sets.{put-on}
+use Rattle.unit_line.proofs.Pieces.{refused-pieces, length-refused}
+use Rattle.unit_line.proofs.Sets.{put-on}
 use borrow.Author.Needs.{needs}
-use Rattle.unit_lines.proofs.line.put_refused.Statement.{statement}
-use Rattle.unit_lines.proofs.line.put_refused.Tie as tie
+use Rattle.unit_line.proofs.put_refused.Statement.{statement}
+use Rattle.unit_line.proofs.put_refused.Tie as tie
 
 slice-aggregate-put-text : tie.Need-slice-aggregate-put-text
 slice-aggregate-put-text c = search needs

@@ -2,11 +2,11 @@ use mathlib.Core.List.{[], _∷_}
 use mathlib.Core.Path.{refl}
 use native.Mathlib.Omega.{arith}
 use lib.ListN.{length-append}
-use Rattle.unit_lines.specs.Line.{decimal}
-use Rattle.unit_lines.proofs.Sets.{put-on}
+use Rattle.unit_line.specs.Line.{decimal}
+use Rattle.unit_line.proofs.Sets.{put-on}
 use borrow.Author.Needs.{needs}
-use Rattle.unit_lines.proofs.line.put_field.Statement.{statement}
-use Rattle.unit_lines.proofs.line.put_field.Tie as tie
+use Rattle.unit_line.proofs.put_field.Statement.{statement}
+use Rattle.unit_line.proofs.put_field.Tie as tie
 
 put-decimal-requires : tie.Need-put-decimal-requires
 put-decimal-requires c κs = omega (arith, length-append (decimal (c .before .before .args .n)) (c .before .before .args .behind ∷ []))

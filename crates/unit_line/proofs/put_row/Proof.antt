@@ -1,9 +1,9 @@
 use native.Mathlib.Omega.{arith}
-use Rattle.unit_lines.proofs.Pieces.{row-pieces, length-row}
-use Rattle.unit_lines.proofs.Sets.{put-on}
+use Rattle.unit_line.proofs.Pieces.{row-pieces, length-row}
+use Rattle.unit_line.proofs.Sets.{put-on}
 use borrow.Author.Needs.{needs}
-use Rattle.unit_lines.proofs.line.put_row.Statement.{statement}
-use Rattle.unit_lines.proofs.line.put_row.Tie as tie
+use Rattle.unit_line.proofs.put_row.Statement.{statement}
+use Rattle.unit_line.proofs.put_row.Tie as tie
 
 cast-put-field : tie.Need-cast-put-field
 cast-put-field c = search needs
