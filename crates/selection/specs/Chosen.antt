@@ -4,40 +4,34 @@ use mathlib.Core.Path.{_≡_, refl, sym, _∙_, ap}
 use Rattle.guideline.specs.declared.Row640.{Row640}
 use Rattle.guideline.specs.declared.Row641.{Row641}
 use Rattle.guideline.specs.declared.Row642.{Row642}
-use Rattle.guideline.specs.declared.Row643.{Row643}
 use Rattle.guideline.specs.declared.Row649.{Row649}
-use Rattle.guideline.specs.declared.Reason.{Reason}
-use Rattle.guideline.specs.declared.Reason.the-variants.{EntryOutOfRange, NoSetting, SettingSeveral, RowsSeveral}
+use Rattle.guideline.specs.declared.Reason.the-variants.{EntryOutOfRange, NoSetting, SettingSeveral}
 use Rattle.guideline.specs.declared.Refusal.{Refusal}
 use Rattle.guideline.specs.declared.Refusal.the-variants.{Ends}
 use Rattle.guideline.specs.Ask.{Outcome, Chosen, Refused}
 use Rattle.guideline.specs.Table.{Hits, None, One, Many}
-use Rattle.selection.specs.declared.remembered.Step.{Step}
-use Rattle.selection.specs.declared.remembered.Step.the-variants.{Kept, Refused as Turned}
-use Rattle.selection.specs.declared.Chosen643.{Chosen643}
-use Rattle.selection.specs.declared.Chosen643.the-variants.{Row as Took643, Refused as No643}
 use Rattle.selection.specs.declared.ChosenAge.{ChosenAge}
 use Rattle.selection.specs.declared.ChosenAge.the-variants.{Months, Refused as NoAge}
 use Rattle.selection.specs.declared.Chosen640.{Chosen640}
 use Rattle.selection.specs.declared.Chosen640.the-variants.{Row as Took640, Refused as No640}
 use Rattle.tables.specs.declared.t640.Found640.{Found640}
 use Rattle.tables.specs.declared.t640.Found640.the-variants.{Nothing as Nothing640, One as One640, Many as Many640}
-use Rattle.tables.specs.Lents.{found640}
+use Rattle.tables.specs.Found.{found640}
 use Rattle.selection.specs.declared.Chosen641.{Chosen641}
 use Rattle.selection.specs.declared.Chosen641.the-variants.{Row as Took641, Refused as No641}
 use Rattle.tables.specs.declared.t641.Found641.{Found641}
 use Rattle.tables.specs.declared.t641.Found641.the-variants.{Nothing as Nothing641, One as One641, Many as Many641}
-use Rattle.tables.specs.Lents.{found641}
+use Rattle.tables.specs.Found.{found641}
 use Rattle.selection.specs.declared.Chosen642.{Chosen642}
 use Rattle.selection.specs.declared.Chosen642.the-variants.{Row as Took642, Refused as No642}
 use Rattle.tables.specs.declared.t642.Found642.{Found642}
 use Rattle.tables.specs.declared.t642.Found642.the-variants.{Nothing as Nothing642, One as One642, Many as Many642}
-use Rattle.tables.specs.Lents.{found642}
+use Rattle.tables.specs.Found.{found642}
 use Rattle.selection.specs.declared.Chosen649.{Chosen649}
 use Rattle.selection.specs.declared.Chosen649.the-variants.{Row as Took649, Refused as No649}
 use Rattle.tables.specs.declared.t649.Found649.{Found649}
 use Rattle.tables.specs.declared.t649.Found649.the-variants.{Nothing as Nothing649, One as One649, Many as Many649}
-use Rattle.tables.specs.Lents.{found649}
+use Rattle.tables.specs.Found.{found649}
 
 abbrev pub chosen-age : Outcome (Unit {0}) ℕ → ChosenAge
 chosen-age (Chosen n) = Months n
@@ -58,19 +52,6 @@ chosen642 (Refused r _) = No642 r
 abbrev pub chosen649 : Outcome (Unit {0}) Row649 → Chosen649
 chosen649 (Chosen r) = Took649 r
 chosen649 (Refused r _) = No649 r
-
-abbrev pub chosen643 : Outcome (Unit {0}) Row643 → Chosen643
-chosen643 (Chosen r) = Took643 r
-chosen643 (Refused r _) = No643 r
-
--- a step that ends the check with a reason
-abbrev pub ended : {A : Type 0} → Reason → Outcome (Unit {0}) A
-ended r = Refused (Ends r) tt
-
--- a filter's refusal, handed on; the first case does not occur
-abbrev pub handed-on : Step → Chosen643
-handed-on Kept = No643 (Ends RowsSeveral)
-handed-on (Turned r) = No643 r
 
 -- what a table answered, told by what the code found
 abbrev pub hits640 : Found640 → Hits Row640
@@ -203,24 +184,6 @@ took642 o e k = back642 o ∙ ap outcome642 (sym e ∙ k)
 
 pub no642 : (o : Outcome (Unit {0}) Row642) {c : Chosen642} {w : Refusal} → c ≡ chosen642 o → c ≡ No642 w → o ≡ Refused w tt
 no642 o e k = back642 o ∙ ap outcome642 (sym e ∙ k)
-
-abbrev pub refusal643 : Chosen643 → Refusal
-refusal643 (Took643 _) = Ends EntryOutOfRange
-refusal643 (No643 r) = r
-
-abbrev outcome643 : Chosen643 → Outcome (Unit {0}) Row643
-outcome643 (Took643 r) = Chosen r
-outcome643 (No643 r) = Refused r tt
-
-back643 : (o : Outcome (Unit {0}) Row643) → o ≡ outcome643 (chosen643 o)
-back643 (Chosen r) = refl
-back643 (Refused r u) = refl
-
-pub took643 : (o : Outcome (Unit {0}) Row643) {c : Chosen643} {r : Row643} → c ≡ chosen643 o → c ≡ Took643 r → o ≡ Chosen r
-took643 o e k = back643 o ∙ ap outcome643 (sym e ∙ k)
-
-pub no643 : (o : Outcome (Unit {0}) Row643) {c : Chosen643} {w : Refusal} → c ≡ chosen643 o → c ≡ No643 w → o ≡ Refused w tt
-no643 o e k = back643 o ∙ ap outcome643 (sym e ∙ k)
 
 abbrev pub refusal649 : Chosen649 → Refusal
 refusal649 (Took649 _) = Ends EntryOutOfRange

@@ -14,7 +14,7 @@ use Rattle.guideline.specs.Values.{intensive-care, all-care, no-reason, whole-r
 use Rattle.guideline.specs.Table.{Table, Hits, None, One, Many, some, any, among, prefer, every}
 use Rattle.guideline.specs.Steps.{one, choose, refuse, of-basis, of-care, of-reason, of-route, keep-care, keep-reason, keep-route, setting}
 use Rattle.guideline.specs.Check.{prescription}
-use Rattle.tables.specs.Lents.{found642}
+use Rattle.tables.specs.Found.{found642}
 use Rattle.tables.specs.Tests.{test642}
 use Rattle.selection.specs.Chosen.{chosen642, by-found642}
 use Rattle.tables.specs.declared.t642.Test642.the-variants.{Care, Reason, Route}

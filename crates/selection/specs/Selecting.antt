@@ -25,21 +25,18 @@ abbrev pub selected : Outcome Reached Selected → Selection
 selected (Chosen s) = TheRule (rule-of s)
 selected (Refused r g) = NoRule r g
 
-abbrev Data : Type 0
-Data = Question → Datum
-
 -- one labelled step, and then the rest
-pub step-at : {G A B : Type 0} (d : Data) (g : G) (p : Step A) (f : A → Plan G B) → run d (at g p >>= f) ≡ after (where-reached g (run d p)) (λ a. run d (f a))
+pub step-at : {G A B : Type 0} (d : Question → Datum) (g : G) (p : Step A) (f : A → Plan G B) → run d (at g p >>= f) ≡ after (where-reached g (run d p)) (λ a. run d (f a))
 step-at d g p f = run-bind d (at g p) f ∙ ap (λ (o : Outcome _ _). after o (λ a. run d (f a))) (run-at d g p)
 
-pub step-refused : {G A B : Type 0} (d : Data) (g : G) (p : Step A) (f : A → Plan G B) {w : Refusal} → run d p ≡ Refused w tt → run d (at g p >>= f) ≡ Refused w g
+pub step-refused : {G A B : Type 0} (d : Question → Datum) (g : G) (p : Step A) (f : A → Plan G B) {w : Refusal} → run d p ≡ Refused w tt → run d (at g p >>= f) ≡ Refused w g
 step-refused {G} {A} {B} d g p f h = step-at d g p f ∙ ap (λ (o : Outcome (Unit {0}) A). after (where-reached g o) (λ a. run d (f a))) h
 
-pub step-chosen : {G A B : Type 0} (d : Data) (g : G) (p : Step A) (f : A → Plan G B) {a : A} → run d p ≡ Chosen a → run d (at g p >>= f) ≡ run d (f a)
+pub step-chosen : {G A B : Type 0} (d : Question → Datum) (g : G) (p : Step A) (f : A → Plan G B) {a : A} → run d p ≡ Chosen a → run d (at g p >>= f) ≡ run d (f a)
 step-chosen {G} {A} {B} d g p f h = step-at d g p f ∙ ap (λ (o : Outcome (Unit {0}) A). after (where-reached g o) (λ a. run d (f a))) h
 
 -- where the chain ends
-module _ (d : Data) (t : Tables) (e : Prescription) where
+module _ (d : Question → Datum) (t : Tables) (e : Prescription) where
   pub ends-at-3 : {w : Refusal} → run d (product (t .t640 .rows) e) ≡ Refused w tt → run d (selection t e) ≡ Refused w nothing
   unfolding selection
   ends-at-3 h = step-refused d nothing (product (t .t640 .rows) e) _ h

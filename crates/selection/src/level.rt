@@ -4,7 +4,7 @@ ghost use Rattle.guideline.specs.Ask.{run};
 ghost use Rattle.guideline.specs.Check.{datum, prescription};
 ghost use Rattle.guideline.specs.Table.{among};
 ghost use Rattle.guideline.specs.Steps.{of-gpk, by-base, by-prk, by-hpk, level};
-ghost use Rattle.tables.specs.Lents.{rows641};
+ghost use Rattle.cells.specs.Lents.{rows641};
 ghost use Rattle.selection.specs.Chosen.{chosen641};
 use crate::Chosen641;
 use guideline::Datum;

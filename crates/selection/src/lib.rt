@@ -5,8 +5,9 @@ ghost use Rattle.guideline.specs.Ask.{run};
 ghost use Rattle.guideline.specs.Bytes.{spelled};
 ghost use Rattle.guideline.specs.Check.{datum, prescription};
 ghost use Rattle.guideline.specs.Steps.{selection};
-ghost use Rattle.selection.specs.Chosen.{refusal640, refusal-age, refusal641, refusal642, refusal643, refusal649};
+ghost use Rattle.selection.specs.Chosen.{refusal640, refusal-age, refusal641, refusal642, refusal649};
 ghost use Rattle.selection.specs.Selecting.{selected};
+use dose_row::Chosen643;
 use guideline::Entry;
 use guideline::Reached;
 use guideline::Reason;
@@ -14,16 +15,12 @@ use guideline::Refusal;
 use guideline::Row640;
 use guideline::Row641;
 use guideline::Row642;
-use guideline::Row643;
 use guideline::Row649;
 
-mod dose_row;
-mod filter;
 mod level;
 mod limits;
 mod person;
 mod product;
-mod remembered;
 mod setting;
 
 pub enum Chosen640 {
@@ -90,23 +87,6 @@ impl Chosen642 {
         match self {
             Chosen642::Row(_) => Refusal::Ends(Reason::EntryOutOfRange),
             Chosen642::Refused(why) => why,
-        }
-    }
-}
-
-pub enum Chosen643 {
-    Row(Row643),
-    Refused(Refusal),
-}
-
-impl Chosen643 {
-    // Where a row was chosen there is none, and nobody asks.
-    pub fn refusal(self) -> Refusal
-        ensures { λ r. ⌜ r ≡ refusal643 self ⌝ }
-    {
-        match self {
-            Chosen643::Row(_) => Refusal::Ends(Reason::EntryOutOfRange),
-            Chosen643::Refused(why) => why,
         }
     }
 }

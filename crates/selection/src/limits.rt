@@ -3,7 +3,7 @@ ghost use mathlib.Core.Path.{_≡_};
 ghost use Rattle.guideline.specs.Ask.{run};
 ghost use Rattle.guideline.specs.Check.{datum, prescription};
 ghost use Rattle.guideline.specs.Steps.{limits-of};
-ghost use Rattle.tables.specs.Lents.{rows649};
+ghost use Rattle.cells.specs.Lents.{rows649};
 ghost use Rattle.selection.specs.Chosen.{chosen649};
 use crate::Chosen649;
 use guideline::Entry;
@@ -11,13 +11,11 @@ use guideline::Reason;
 use guideline::Refusal;
 use tables::t649;
 use tables::t649::Found649;
-use tables::t649::Test649;
 
 pub fn limits_of(t649: &[u8], e: Entry, rule: u32) -> Chosen649
     ensures { λ r. ⌜ r ≡ chosen649 (run (datum e) (limits-of (rows649 (now (t649 .entry))) rule)) ⌝ }
 {
-    let part = t649::of_rule(t649, rule);
-    let found = t649::ask(part, Test649::Rule(rule));
+    let found = t649::ask(t649, rule);
     match found {
         Found649::Nothing => Chosen649::Refused(Refusal::Ends(Reason::LimitsAbsent)),
         Found649::One(row) => Chosen649::Row(row),

@@ -3,7 +3,7 @@ ghost use mathlib.Core.Path.{_≡_};
 ghost use Rattle.guideline.specs.Ask.{run};
 ghost use Rattle.guideline.specs.Check.{datum, prescription};
 ghost use Rattle.guideline.specs.Steps.{setting};
-ghost use Rattle.tables.specs.Lents.{rows642};
+ghost use Rattle.cells.specs.Lents.{rows642};
 ghost use Rattle.selection.specs.Chosen.{chosen642, by-found642};
 ghost use Rattle.selection.specs.Kept.{care-kept, reason-kept};
 use crate::Chosen642;

@@ -7,9 +7,10 @@ use Rattle.guideline.specs.Ask.{run}
 use Rattle.guideline.specs.Bytes.{spelled, lent}
 use Rattle.guideline.specs.Steps.{product, person, level, setting, dose-row, limits-of}
 use Rattle.guideline.specs.Check.{datum, prescription}
-use Rattle.tables.specs.Lents.{rows, rows640, rows641, rows642, rows643, rows649}
+use Rattle.cells.specs.Lents.{rows, rows640, rows641, rows642, rows643, rows649}
+use Rattle.dose_row.specs.Chosen.{refusal643, took643, no643}
 use Rattle.selection.specs.declared.Selection.the-variants.{Refused}
-use Rattle.selection.specs.Chosen.{refusal640, refusal-age, refusal641, refusal642, refusal643, refusal649, took640, took-age, took641, took642, took643, took649, no640, no-age, no641, no642, no643, no649}
+use Rattle.selection.specs.Chosen.{refusal640, refusal-age, refusal641, refusal642, refusal649, took640, took-age, took641, took642, took649, no640, no-age, no641, no642, no649}
 use Rattle.selection.specs.Selecting.{selected, ends-at-3, ends-at-4, ends-at-5, ends-at-6, ends-at-7, ends-at-11, ends-well}
 use Rattle.selection.proofs.select.Statement.{statement}
 use Rattle.selection.proofs.select.Tie as tie

@@ -2,7 +2,7 @@
 use borrow.Author.Needs.{needs}
 use Rattle.guideline.specs.Steps.{by-base, refuse, one, choose}
 use denote.Ref.{now}
-use Rattle.tables.specs.Lents.{rows641}
+use Rattle.cells.specs.Lents.{rows641}
 use Rattle.tables.specs.Tests.{test641}
 use Rattle.tables.specs.declared.t641.Test641.the-variants.{BaseLevel}
 use Rattle.selection.specs.Chosen.{found-hits641}

@@ -5,7 +5,7 @@ use mathlib.Core.Path.{sym, _∙_, ap}
 use Rattle.guideline.specs.Ask.{_>>=_}
 use Rattle.guideline.specs.Steps.{of-gpk, by-prk, when, ask, refuse, choose}
 use denote.Ref.{now}
-use Rattle.tables.specs.Lents.{rows641}
+use Rattle.cells.specs.Lents.{rows641}
 use Rattle.tables.specs.Tests.{test641}
 use Rattle.tables.specs.declared.t641.Test641.the-variants.{Prk}
 use Rattle.selection.specs.Chosen.{chosen641, found-hits641}

@@ -6,7 +6,7 @@ use Rattle.guideline.specs.declared.Row642.{Row642}
 use Rattle.guideline.specs.Ask.{Step, run}
 use Rattle.guideline.specs.Steps.{one, choose, refuse}
 use Rattle.guideline.specs.Check.{datum}
-use Rattle.tables.specs.Lents.{rows642}
+use Rattle.cells.specs.Lents.{rows642}
 use Rattle.tables.specs.Tests.{test642}
 use Rattle.tables.specs.declared.t642.Test642.the-variants.{Route}
 use Rattle.selection.specs.Chosen.{chosen642, by-found642, found-hits642}
