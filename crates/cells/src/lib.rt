@@ -4,6 +4,7 @@ ghost use Prim.Native.Nat.{_+_, _*_, _≤_, _<_};
 ghost use lib.ListN.{length};
 ghost use Rattle.guideline.specs.Bytes.{word, cell, whole-rows};
 
+pub mod keyed;
 pub mod part;
 pub mod t640;
 pub mod t641;

@@ -76,7 +76,7 @@ pub fn check_after(
     requires { ⌜ s ≡ soundness (spelled (record { b640 = now t640; b641 = now t641; b642 = now t642; b643 = now t643; b649 = now t649; b730 = now t730 })) ⌝ }
     ensures { λ r. ⌜ r ≡ check (spelled (record { b640 = now (t640 .entry); b641 = now (t641 .entry); b642 = now (t642 .entry); b643 = now (t643 .entry); b649 = now (t649 .entry); b730 = now (t730 .entry) })) e ⌝ }
 {
-    if !ranges::entry::in_range(e) {
+    if !entry::in_range(e) {
         return answer::refused(Refusal::Ends(Reason::EntryOutOfRange), nothing());
     }
     let Soundness::Sound = s else {

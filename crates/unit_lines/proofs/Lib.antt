@@ -9,4 +9,3 @@ pub mod Finishing
 pub mod Feeding
 pub mod Callers
 pub mod Listed
-pub mod Examples

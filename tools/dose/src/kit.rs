@@ -29,6 +29,8 @@ pub fn command(program: &Path) -> Result<Command, String> {
     for (name, _) in std::env::vars_os().filter(|(name, _)| name.to_string_lossy().starts_with("QEMU_")) {
         command.env_remove(name);
     }
+    // a plain processor: on the emulator's own choice libc copies by string instructions, which the emulator does byte by byte
+    command.env("QEMU_CPU", "qemu64");
     Ok(command)
 }
 

@@ -16,23 +16,26 @@ use Rattle.tables.proofs.t649.ask.Tie as tie
 
 row-requires : tie.Need-row-requires
 row-requires c κs =
-    let e = c .before .tally .ensures in
+    let e = c .before .keyed .ensures in
     rw (ap (λ (t : Tally). t .last) e) (last-below _ _ (rw (← ap (λ (t : Tally). t .count) e) (rw (c .match .keys2) (omega arith))))
 
 returns : tie.Need-returns
+unfolding rule-row
 returns c =
     let a = c .before .before .before .before .args in
-    sym (ap found649 (sym (part649 (c .before .before .part .ensures)) ∙ rows-told width649 row649 (now (c .before .before .part .result)) (rule-row (a .rule)) (c .before .tally .ensures) ∙ told-none _ (c .match .keys1)))
+    sym (ap found649 (sym (part649 (c .before .before .part .ensures)) ∙ rows-told width649 row649 (now (c .before .before .part .result)) (rule-row (a .rule)) (c .before .keyed .ensures) ∙ told-none _ (c .match .keys1)))
 
 returns-2 : tie.Need-returns-2
+unfolding rule-row
 returns-2 c =
     let a = c .before .before .before .before .before .args in
-    sym (ap found649 (sym (part649 (c .before .before .before .part .ensures)) ∙ rows-told width649 row649 (now (c .before .before .before .part .result)) (rule-row (a .rule)) (c .before .before .tally .ensures) ∙ told-one _ (c .before .match .keys2)) ∙ ap One (sym (c .row .ensures)))
+    sym (ap found649 (sym (part649 (c .before .before .before .part .ensures)) ∙ rows-told width649 row649 (now (c .before .before .before .part .result)) (rule-row (a .rule)) (c .before .before .keyed .ensures) ∙ told-one _ (c .before .match .keys2)) ∙ ap One (sym (c .row .ensures)))
 
 returns-3 : tie.Need-returns-3
+unfolding rule-row
 returns-3 c =
     let a = c .before .before .before .before .args in
-    sym (ap found649 (sym (part649 (c .before .before .part .ensures)) ∙ rows-told width649 row649 (now (c .before .before .part .result)) (rule-row (a .rule)) (c .before .tally .ensures) ∙ told-many _ _ (c .match .rest .0 .1) (c .match .rest .1)))
+    sym (ap found649 (sym (part649 (c .before .before .part .ensures)) ∙ rows-told width649 row649 (now (c .before .before .part .result)) (rule-row (a .rule)) (c .before .keyed .ensures) ∙ told-many _ _ (c .match .rest .0 .1) (c .match .rest .1)))
 
 pub ask-spec : {M : Type 1} → statement M
 ask-spec = tie.close (tie.spec (λ c κs. search needs) (λ c κs. search needs) row-requires returns returns-2 returns-3)

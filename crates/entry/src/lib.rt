@@ -2,7 +2,7 @@
 ghost use mathlib.Core.Path.{_≡_};
 ghost use mathlib.Core.Bool.{_&&_};
 ghost use Rattle.guideline.specs.Check.{prescription, icpcto-in-range, switch-in-range, in-range};
-ghost use Rattle.ranges.specs.Entries.{within-if-given, product-part, dose-part, six-data};
+ghost use Rattle.entry.specs.Entries.{within-if-given, product-part, dose-part, six-data};
 use guideline::Datum;
 use guideline::Entry;
 use guideline::Range;

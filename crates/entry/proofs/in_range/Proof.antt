@@ -1,8 +1,8 @@
 -- 125: all the parts together. Assumes nothing.
 use borrow.Author.Needs.{needs}
-use Rattle.ranges.specs.Entries.{entry-parts}
-use Rattle.ranges.proofs.entry.in_range.Statement.{statement}
-use Rattle.ranges.proofs.entry.in_range.Tie as tie
+use Rattle.entry.specs.Entries.{entry-parts}
+use Rattle.entry.proofs.in_range.Statement.{statement}
+use Rattle.entry.proofs.in_range.Tie as tie
 
 returns : tie.Need-returns
 returns c = rw (c .both2 .ensures, c .before .data-in-range .ensures, c .before .before .both .ensures, c .before .before .before .dose-in-range .ensures, c .before .before .before .before .product-in-range .ensures) (entry-parts (c .before .before .before .before .before .args .e))
