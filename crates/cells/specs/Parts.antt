@@ -2,12 +2,14 @@
 use Prim.Native.Nat.{ℕ, zero, suc, _+_, _-_, _*_, _/_, _≤_, _<_}
 use mathlib.Core.Path.{_≡_, refl, sym, _∙_, ap, subst}
 use mathlib.Core.Logic.{⊎-elim}
-use mathlib.Core.Bool.{Bool, true, false, cond}
+use mathlib.Core.Bool.{Bool, true, false, cond, _||_}
 use mathlib.Core.List.{List, [], _∷_}
 use native.Mathlib.Nat.{eq-or-lt-of-le, add-zero, add-suc, add-assoc, add-mul, mul-assoc, mul-comm, mul-sub, mul-le-mul-right, div-le-self, div-mul-le-self, mul-div-cancel}
 use native.Mathlib.Decide.{le-ind}
 use native.Mathlib.Omega.{arith}
 use lib.ListN.{length, take, drop, getD, length-drop}
+use borrow.Author.Tests.{eqb-false, ltb-true, ltb-false}
+use lib.Dec.{eqb, ltb}
 use lib.Seq.{length-take-le, getD-take, getD-drop}
 use Rattle.guideline.specs.Table.{keep, hits, table}
 use Rattle.guideline.specs.Bytes.{word, cell, listed, rows-of}
@@ -20,6 +22,14 @@ rows-in w l = length l / (w * 4)
 abbrev pub Without : ℕ → ℕ → ℕ → List ℕ → ℕ → ℕ → Type 0
 Without w k key l a b = (i : ℕ) → a ≤ i → i < b → cell w l i k ≡ key → ⊥
 
+-- has the row the key; has one of four rows, from one on
+abbrev pub has-key : ℕ → ℕ → ℕ → List ℕ → ℕ → Bool
+has-key w k key l i = eqb (cell w l i k) key
+
+unfoldable pub in-four : ℕ → ℕ → ℕ → List ℕ → ℕ → Bool
+in-four w k key l i =
+    (has-key w k key l i || has-key w k key l (i + 1)) || (has-key w k key l (i + 2) || has-key w k key l (i + 3))
+
 -- m is the rows of l from one on and below another; the key stands in no other row
 pub record Part (w k key : ℕ) (l m : List ℕ) : Type 0 where
   pub from : ℕ
@@ -30,18 +40,45 @@ pub record Part (w k key : ℕ) (l m : List ℕ) : Type 0 where
   pub before : Without w k key l 0 from
   pub after : Without w k key l to (rows-in w l)
 
--- no rows; one more at the end; one more at the start
+-- no rows; one row; four rows; rows and further rows
 module _ (w k key : ℕ) (l : List ℕ) where
+  abbrev Other : ℕ → Type 0
+  Other i = cell w l i k ≡ key → ⊥
+
+  moved : (i j : ℕ) → i ≡ j → Other i → Other j
+  moved i j e other = subst Other e other
+
   pub without-none : (a : ℕ) → Without w k key l a a
   without-none a i above below same = omega arith
 
-  pub without-next : (a b : ℕ) → Without w k key l a b → (cell w l b k ≡ key → ⊥) → Without w k key l a (b + 1)
-  without-next a b h other i above below same =
-      ⊎-elim (λ e. other (subst (λ x. cell w l x k ≡ key) e same)) (λ less. h i above less same) (eq-or-lt-of-le {n = i} {m = b} (omega arith))
+  pub without-one : (i : ℕ) → Other i → Without w k key l i (i + 1)
+  without-one i other j above below = moved i j (omega arith) other
 
-  pub without-back : (a b : ℕ) → Without w k key l (a + 1) b → (cell w l a k ≡ key → ⊥) → Without w k key l a b
-  without-back a b h other i above below same =
-      ⊎-elim (λ e. other (subst (λ x. cell w l x k ≡ key) (sym e) same)) (λ more. h i (omega arith) below same) (eq-or-lt-of-le above)
+  none-of-four : (p q r s : Bool) → ((p || q) || (r || s)) ≡ false → (p ≡ false) × (q ≡ false) × (r ≡ false) × (s ≡ false)
+  none-of-four false false false false h = (refl, refl, refl, refl)
+  none-of-four false false false true h = absurd (let z : _≡_ {A = ℕ} 0 1 = cc in let n : ⊥ = omega arith in n)
+  none-of-four false false true s h = absurd (let z : _≡_ {A = ℕ} 0 1 = cc in let n : ⊥ = omega arith in n)
+  none-of-four false true r s h = absurd (let z : _≡_ {A = ℕ} 0 1 = cc in let n : ⊥ = omega arith in n)
+  none-of-four true q r s h = absurd (let z : _≡_ {A = ℕ} 0 1 = cc in let n : ⊥ = omega arith in n)
+
+  pub without-four : (i : ℕ) → in-four w k key l i ≡ false → Without w k key l i (i + 4)
+  unfolding in-four
+  without-four i h j above below =
+      let none = none-of-four (has-key w k key l i) (has-key w k key l (i + 1)) (has-key w k key l (i + 2)) (has-key w k key l (i + 3)) h in
+      ⊎-elim (λ e. moved i j e (eqb-false (cell w l i k) key (none .0)))
+      (λ more. ⊎-elim (λ e. moved (i + 1) j e (eqb-false (cell w l (i + 1) k) key (none .1)))
+      (λ more. ⊎-elim (λ e. moved (i + 2) j e (eqb-false (cell w l (i + 2) k) key (none .2)))
+      (λ more. moved (i + 3) j (omega arith) (eqb-false (cell w l (i + 3) k) key (none .3)))
+      (eq-or-lt-of-le {n = i + 2} {m = j} (omega arith)))
+      (eq-or-lt-of-le {n = i + 1} {m = j} (omega arith)))
+      (eq-or-lt-of-le above)
+
+  pub without-both : (a b c : ℕ) → Without w k key l a b → Without w k key l b c → Without w k key l a c
+  without-both a b c h more j above below = go (ltb j b) (ltb-true j b) (ltb-false j b)
+    where
+      go : (t : Bool) → (t ≡ true → j < b) → (t ≡ false → b ≤ j) → Other j
+      go true is less = h j above (is refl)
+      go false is less = more j (less refl) below
 
 -- rows lie inside the table, and so do their numbers
 pub rows-most : (w : ℕ) (l : List ℕ) → rows-in w l ≤ length l

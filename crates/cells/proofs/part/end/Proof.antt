@@ -1,10 +1,10 @@
 -- No row that the loop has passed, from the end on, has the key. Assumes nothing.
 use borrow.Author.Needs.{needs}
-use Prim.Native.Nat.{_-_, _≤_}
+use Prim.Native.Nat.{_+_, _-_, _≤_}
 use mathlib.Core.Path.{_∙_}
 use native.Mathlib.Omega.{arith}
 use denote.Ref.{now}
-use Rattle.cells.specs.Parts.{Without, rows-in, without-none, without-back, cell-inside, rows-most}
+use Rattle.cells.specs.Parts.{Without, rows-in, without-one, without-both, cell-inside}
 use Rattle.cells.proofs.part.end.Statement.{statement}
 use Rattle.cells.proofs.part.end.Tie as tie
 
@@ -15,13 +15,11 @@ abbrev μ-loop : tie.MeasureT-loop
 μ-loop t width k key from i₀ i = i
 
 loop-holds : tie.Need-loop-holds Inv-loop μ-loop
-loop-holds c =
-    let a = c .before .args in
-    (omega arith, omega arith, without-none (a .width) (a .k) (a .key) (now (a .t)) (rows-in (a .width) (now (a .t))))
+loop-holds c = c .fours-back .ensures
 
 cell-requires : tie.Need-cell-requires Inv-loop μ-loop
 cell-requires c κs =
-    let a = c .before .before .before .args in
+    let a = c .before .before .before .before .args in
     cell-inside (a .width) (c .before .loop .i - 1) (a .k) (now (a .t)) (omega arith) (omega arith)
 
 returns : tie.Need-returns Inv-loop μ-loop
@@ -29,11 +27,14 @@ returns c = c .before .before .before .loop .inv
 
 loop-again : tie.Need-loop-again Inv-loop μ-loop
 loop-again c =
-    let a = c .before .before .before .before .before .args in
-    (omega arith, omega arith, without-back (a .width) (a .k) (a .key) (now (a .t)) (c .before .before .before .loop .i - 1) (rows-in (a .width) (now (a .t))) (λ i above. c .before .before .before .loop .inv .2 i (omega arith)) (λ same. c .if1 .left (c .before .cell .ensures ∙ same)))
+    let a = c .before .before .before .before .before .before .args in
+    let i = c .before .before .before .loop .i in
+    let n = rows-in (a .width) (now (a .t)) in
+    let one = without-one (a .width) (a .k) (a .key) (now (a .t)) (i - 1) (λ same. c .if1 .left (c .before .cell .ensures ∙ same)) in
+    (omega arith, omega arith, without-both (a .width) (a .k) (a .key) (now (a .t)) (i - 1) (i - 1 + 1) n one (λ j above. c .before .before .before .loop .inv .2 j (omega arith)))
 
 returns-2 : tie.Need-returns-2 Inv-loop μ-loop
 returns-2 c = (omega arith, omega arith, λ i above. c .before .loop .inv .2 i (omega arith))
 
 pub end-spec : {M : Type 1} → statement M
-end-spec = tie.close (tie.spec Inv-loop μ-loop (λ c. search needs) (λ c. search needs) loop-holds (λ c. search needs) cell-requires returns (λ c. search needs) loop-again returns-2)
+end-spec = tie.close (tie.spec Inv-loop μ-loop (λ c κs. search needs) loop-holds (λ c. search needs) cell-requires returns (λ c. search needs) loop-again returns-2)

@@ -1,10 +1,10 @@
 -- No row that the loop has passed has the key. Assumes nothing.
 use borrow.Author.Needs.{needs}
-use Prim.Native.Nat.{_-_, _≤_}
+use Prim.Native.Nat.{_+_, _-_, _≤_}
 use mathlib.Core.Path.{_∙_}
 use native.Mathlib.Omega.{arith}
 use denote.Ref.{now}
-use Rattle.cells.specs.Parts.{Without, without-none, without-next, cell-inside, rows-most}
+use Rattle.cells.specs.Parts.{Without, without-one, without-both, cell-inside, rows-most}
 use Rattle.cells.proofs.part.first.Statement.{statement}
 use Rattle.cells.proofs.part.first.Tie as tie
 
@@ -15,13 +15,11 @@ abbrev μ-loop : tie.MeasureT-loop
 μ-loop t width k key rows i₀ i = rows - i
 
 loop-holds : tie.Need-loop-holds Inv-loop μ-loop
-loop-holds c =
-    let a = c .before .args in
-    (omega arith, without-none (a .width) (a .k) (a .key) (now (a .t)) 0)
+loop-holds c = c .fours .ensures
 
 cell-requires : tie.Need-cell-requires Inv-loop μ-loop
 cell-requires c κs =
-    let a = c .before .before .before .args in
+    let a = c .before .before .before .before .args in
     cell-inside (a .width) (c .before .loop .i) (a .k) (now (a .t)) (omega arith) (omega arith)
 
 returns : tie.Need-returns Inv-loop μ-loop
@@ -29,17 +27,18 @@ returns c = c .before .before .before .loop .inv
 
 add-i : tie.Need-add-i Inv-loop μ-loop
 add-i c =
-    let a = c .before .before .before .before .before .args in
+    let a = c .before .before .before .before .before .before .args in
     let h = rows-most (a .width) (now (a .t)) in
     search (h, needs)
 
 loop-again : tie.Need-loop-again Inv-loop μ-loop
 loop-again c =
-    let a = c .before .before .before .before .before .args in
-    (omega arith, without-next (a .width) (a .k) (a .key) (now (a .t)) 0 (c .before .before .before .loop .i) (c .before .before .before .loop .inv .1) (λ same. c .if1 .left (c .before .cell .ensures ∙ same)))
+    let a = c .before .before .before .before .before .before .args in
+    let i = c .before .before .before .loop .i in
+    (omega arith, without-both (a .width) (a .k) (a .key) (now (a .t)) 0 i (i + 1) (c .before .before .before .loop .inv .1) (without-one (a .width) (a .k) (a .key) (now (a .t)) i (λ same. c .if1 .left (c .before .cell .ensures ∙ same))))
 
 returns-2 : tie.Need-returns-2 Inv-loop μ-loop
 returns-2 c = (omega arith, λ i above below. c .before .loop .inv .1 i above (omega arith))
 
 pub first-spec : {M : Type 1} → statement M
-first-spec = tie.close (tie.spec Inv-loop μ-loop (λ c. search needs) (λ c. search needs) loop-holds cell-requires returns add-i (λ c. search needs) loop-again returns-2)
+first-spec = tie.close (tie.spec Inv-loop μ-loop (λ c. search needs) (λ c. search needs) (λ c κs. search needs) loop-holds cell-requires returns add-i (λ c. search needs) loop-again returns-2)
