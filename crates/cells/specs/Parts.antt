@@ -1,6 +1,6 @@
 -- The part of a table from the first row with a key to the last. Asked about rows with that key it answers as the table does.
 use Prim.Native.Nat.{ℕ, zero, suc, _+_, _-_, _*_, _/_, _≤_, _<_}
-use mathlib.Core.Path.{_≡_, refl, sym, _∙_, ap, subst}
+use mathlib.Core.Path.{_≡_, refl, sym, _∙_, ap, ap₂, subst}
 use mathlib.Core.Logic.{⊎-elim}
 use mathlib.Core.Bool.{Bool, true, false, cond, _||_}
 use mathlib.Core.List.{List, [], _∷_}
@@ -148,7 +148,7 @@ module _ {w k key : ℕ} {l m : List ℕ} (in-row : k < w) (q : Part w k key l m
 
 -- rows without a property do not tell whether there are more of them
 module _ {A : Type 0} (p : A → Bool) where
-  keep-below : (f : ℕ → A) (m n : ℕ) → m ≤ n → ((i : ℕ) → m ≤ i → i < n → p (f i) ≡ false) → keep p (listed n f) ≡ keep p (listed m f)
+  pub keep-below : (f : ℕ → A) (m n : ℕ) → m ≤ n → ((i : ℕ) → m ≤ i → i < n → p (f i) ≡ false) → keep p (listed n f) ≡ keep p (listed m f)
   keep-below f m =
       le-ind (λ n. ((i : ℕ) → m ≤ i → i < n → p (f i) ≡ false) → keep p (listed n f) ≡ keep p (listed m f)) (λ h. refl) (λ n le rec h. rw (h n le (omega arith)) (rec (λ i above below. h i above (omega arith))))
 
@@ -156,9 +156,9 @@ module _ {A : Type 0} (p : A → Bool) where
   keep-from f a zero h = rw (add-zero a) (keep-below f 0 a (omega arith) (λ i above. h i))
   keep-from f a (suc n) h = rw (add-suc a n, keep-from f a n h)
 
-  same-rows : (f g : ℕ → A) (n : ℕ) → ((i : ℕ) → i < n → f i ≡ g i) → keep p (listed n f) ≡ keep p (listed n g)
-  same-rows f g zero h = refl
-  same-rows f g (suc n) h = rw (h n (omega arith), same-rows f g n (λ i below. h i (omega arith)))
+pub listed-same : {A : Type 0} (f g : ℕ → A) (n : ℕ) → ((i : ℕ) → i < n → f i ≡ g i) → listed n f ≡ listed n g
+listed-same f g zero h = refl
+listed-same f g (suc n) h = ap₂ _∷_ (h n (omega arith)) (listed-same f g n (λ i below. h i (omega arith)))
 
 -- a row is made of its w numbers
 abbrev pub Reads : {A : Type 0} → ℕ → ((ℕ → ℕ) → A) → Type 0
@@ -175,7 +175,7 @@ pub part-answers :
 unfolding rows-of
 part-answers {A} {w} {k} {key} {l} {m} read p in-row reads other q =
     ap hits
-    (same-rows p own shifted (rows-in w m) (λ i below. reads (cell w m i) (cell w l (q .from + i)) (λ j. part-cell in-row q i j (rw (← part-rows in-row q) below)))
+    (ap (keep p) (listed-same own shifted (rows-in w m) (λ i below. reads (cell w m i) (cell w l (q .from + i)) (λ j. part-cell in-row q i j (rw (← part-rows in-row q) below))))
     ∙ ap (λ (n : ℕ). keep p (listed n shifted)) (part-rows in-row q)
     ∙ sym (keep-from p row (q .from) (q .to - q .from) (λ i below. other (cell w l i) (q .before i (omega arith) below)))
     ∙ ap (λ (n : ℕ). keep p (listed n row)) up-to

@@ -102,6 +102,17 @@ module _ {rows i count last : ℕ} (h : ℕ → Bool) (k : Tallying h rows i cou
   pub tallying-miss : h i ≡ false → Tallying h rows (i + 1) count last
   tallying-miss e = (omega arith, omega arith, rw (tally-miss h i e) (k .2), rw (tally-miss h i e) (k .3))
 
+-- rows without the property are passed over
+none-between : (h : ℕ → Bool) (i j : ℕ) → i ≤ j → ((m : ℕ) → i ≤ m → m < j → h m ≡ false) → tallied h j ≡ tallied h i
+unfolding tallied
+none-between h i =
+    le-ind (λ j. ((m : ℕ) → i ≤ m → m < j → h m ≡ false) → tallied h j ≡ tallied h i) (λ misses. refl) (λ j le rec misses. rw (misses j le (omega arith)) (rec (λ m above below. misses m above (omega arith))))
+
+pub tallying-skip : {rows i count last : ℕ} (h : ℕ → Bool) (j : ℕ) → Tallying h rows i count last → i ≤ j → j ≤ rows → ((m : ℕ) → i ≤ m → m < j → h m ≡ false) → Tallying h rows j count last
+tallying-skip {rows} {i} h j k le most misses =
+    let same : tallied h j ≡ tallied h i = none-between h i j le misses in
+    (most, omega arith, k .2 ∙ sym (ap (λ (t : Tally). t .count) same), k .3 ∙ sym (ap (λ (t : Tally). t .last) same))
+
 pub tallying-all : {rows i count last : ℕ} (h : ℕ → Bool) → Tallying h rows i count last → rows ≤ i → _≡_ {A = Tally} (record { count = count; last = last }) (tallied h rows)
 tallying-all {rows} {i} h k j =
     let e : i ≡ rows = omega arith in

@@ -6,6 +6,7 @@ ghost use Rattle.guideline.specs.Bytes.{cell};
 ghost use Rattle.cells.specs.Parts.{rows-in};
 ghost use Rattle.cells.specs.Tally.{tallied};
 use crate::Tally;
+use crate::next::next;
 
 pub fn keyed(t: &[u8], width: usize, k: usize, key: u32) -> Tally
     requires { ⌜ (k < width) × (width ≤ 16) ⌝ }
@@ -14,10 +15,10 @@ pub fn keyed(t: &[u8], width: usize, k: usize, key: u32) -> Tally
     let rows = t.len() / (width * 4);
     let mut count: usize = 0;
     let mut last: usize = 0;
-    let mut i: usize = 0;
+    let mut i = next(t, width, k, key, 0);
     while i < rows {
         let here = i;
-        i += 1;
+        i = next(t, width, k, key, here + 1);
         if crate::cell(t, width, here, k) == key {
             count += 1;
             last = here;

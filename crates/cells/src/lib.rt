@@ -5,6 +5,7 @@ ghost use lib.ListN.{length};
 ghost use Rattle.guideline.specs.Bytes.{word, cell, whole-rows};
 
 pub mod keyed;
+pub mod next;
 pub mod part;
 pub mod t640;
 pub mod t641;

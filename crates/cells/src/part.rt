@@ -1,35 +1,9 @@
 // The part of a table where a key stands. A table is scanned once for it; what is asked of the rows with the key is then asked of the part.
 ghost use mathlib.Core.Path.{_≡_};
-ghost use Prim.Native.Nat.{_+_, _≤_, _<_};
-ghost use Rattle.cells.specs.Parts.{Part, Without, in-four, rows-in};
-
-// Has one of four rows the key? Most of a table is passed over four rows at a time.
-fn in_four(t: &[u8], width: usize, k: usize, key: u32, at: usize) -> bool
-    requires { ⌜ (k < width) × (width ≤ 16) × (at + 4 ≤ rows-in width (now t)) ⌝ }
-    ensures { λ r. ⌜ r ≡ in-four width k key (now (t .entry)) at ⌝ }
-{
-    let a = crate::cell(t, width, at, k) == key;
-    let b = crate::cell(t, width, at + 1, k) == key;
-    let c = crate::cell(t, width, at + 2, k) == key;
-    let d = crate::cell(t, width, at + 3, k) == key;
-    guideline::either(guideline::either(a, b), guideline::either(c, d))
-}
-
-// Fours of rows without the key, from the front.
-fn fours(t: &[u8], width: usize, k: usize, key: u32) -> usize
-    requires { ⌜ (k < width) × (width ≤ 16) ⌝ }
-    ensures { λ r. ⌜ (r ≤ rows-in width (now (t .entry))) × Without width k key (now (t .entry)) 0 r ⌝ }
-{
-    let rows = t.len() / (width * 4);
-    let mut i: usize = 0;
-    while 4 <= rows - i {
-        if in_four(t, width, k, key, i) {
-            return i;
-        }
-        i += 4;
-    }
-    i
-}
+ghost use Prim.Native.Nat.{_≤_, _<_};
+ghost use Rattle.cells.specs.Parts.{Part, Without, rows-in};
+use crate::next::in_four;
+use crate::next::next;
 
 // Fours of rows without the key, from the back; none before `from`.
 fn fours_back(t: &[u8], width: usize, k: usize, key: u32, from: usize) -> usize
@@ -45,22 +19,6 @@ fn fours_back(t: &[u8], width: usize, k: usize, key: u32, from: usize) -> usize
         i = at;
     }
     i
-}
-
-// How many rows stand before the first whose number k is the key.
-fn first(t: &[u8], width: usize, k: usize, key: u32) -> usize
-    requires { ⌜ (k < width) × (width ≤ 16) ⌝ }
-    ensures { λ r. ⌜ (r ≤ rows-in width (now (t .entry))) × Without width k key (now (t .entry)) 0 r ⌝ }
-{
-    let rows = t.len() / (width * 4);
-    let mut i = fours(t, width, k, key);
-    while i < rows {
-        if crate::cell(t, width, i, k) == key {
-            return i;
-        }
-        i += 1;
-    }
-    rows
 }
 
 // How many rows stand up to the last whose number k is the key, of which there is none before `from`.
@@ -84,7 +42,7 @@ pub fn part(t: &[u8], width: usize, k: usize, key: u32) -> &[u8]
     ensures { λ r. ⌜ Part width k key (now (t .entry)) (now r) ⌝ }
 {
     let row = width * 4;
-    let from = first(t, width, k, key);
+    let from = next(t, width, k, key, 0);
     let to = end(t, width, k, key, from);
     let a = from * row;
     let b = to * row;

@@ -12,6 +12,7 @@ use borrow.Author.Tests.{ltb-true, ltb-false}
 use lib.Dec.{ltb}
 use lib.ListN.{length, getD, set, length-set}
 use lib.Seq.{getD-set-same, getD-set-other}
+use Rattle.cells.specs.Parts.{listed-same, keep-below}
 use Rattle.guideline.specs.Table.{Hits, None, One, Many, keep, hits, more, some, number}
 use Rattle.guideline.specs.Bytes.{listed}
 use Rattle.guideline.proofs.Gives.{some-more}
@@ -101,10 +102,6 @@ below-place n g (suc m) j b h = go (ltb j m) refl (below-place n g m j (b .1))
 abbrev pub held : List ℕ → ℕ → List ℕ
 held a n = listed n (λ j. getD a j 0)
 
-listed-same : {A : Type 0} (f g : ℕ → A) (n : ℕ) → ((j : ℕ) → j < n → f j ≡ g j) → listed n f ≡ listed n g
-listed-same f g zero h = refl
-listed-same f g (suc n) h = ap₂ _∷_ (h n (omega arith)) (listed-same f g n (λ j k. h j (omega arith)))
-
 -- a store at the end of what is held
 pub held-push : (a : List ℕ) (n x : ℕ) → n < length a → held (set a n x) (n + 1) ≡ x ∷ held a n
 held-push a n x h =
@@ -131,6 +128,11 @@ module _ {p : ℕ → Bool} {g : ℕ → ℕ} {i : ℕ} {at : List ℕ} {len : �
 
   pub keeping-miss : p (g i) ≡ false → Keeping p g (i + 1) at len
   keeping-miss miss = record { cells = k .cells; same = rw (add-one i, miss) (k .same) }
+
+-- places without the property are passed over
+pub keeping-skip : {p : ℕ → Bool} {i len : ℕ} {at : List ℕ} (j : ℕ) → Keeping p (λ m. m) i at len → i ≤ j → ((m : ℕ) → i ≤ m → m < j → p m ≡ false) → Keeping p (λ m. m) j at len
+keeping-skip {p} {i} j k le misses =
+    record { cells = k .cells; same = k .same ∙ sym (keep-below p (λ m. m) i j le misses) }
 
 -- a search that has passed i places and has found none with a property
 abbrev pub Missed : (ℕ → Bool) → (ℕ → ℕ) → ℕ → Type 0

@@ -4,6 +4,7 @@ use mathlib.Core.Path.{_≡_, refl, sym, _∙_, ap, ap₂, fun-ext}
 use mathlib.Core.Bool.{Bool, true, false, not, _&&_, and-true, and-assoc}
 use mathlib.Core.List.{List, [], _∷_, map}
 use native.Mathlib.Omega.{arith}
+use borrow.Author.Tests.{ne-eqb}
 use lib.Dec.{eqb}
 use lib.ListN.{length, getD}
 use Rattle.guideline.specs.declared.Refusal.{Refusal}
@@ -74,6 +75,10 @@ thinned l p s r v few k =
 -- the rows of a category whose bounds enclose the age
 abbrev pub aged : ℕ → ℕ → Row643 → Bool
 aged category age r = of-category category r && age-fits age r
+
+pub other-category : (category age : ℕ) (r : Row643) → (r .gpdcat ≡ category → ⊥) → aged category age r ≡ false
+unfolding of-category
+other-category category age r h = rw (ne-eqb (r .gpdcat) category h)
 
 module _ (l : List ℕ) (category age : ℕ) where
   private-rows : rows643 l ≡ table (map (row-at l) (listed (rows-in l) (λ j. j)))

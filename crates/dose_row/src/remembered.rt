@@ -13,6 +13,7 @@ ghost use Rattle.dose_row.specs.Remembered.{remembered, Valid, Thinned, 
 use crate::filter;
 use crate::filter::Filter;
 use crate::filter::Frequency;
+use cells::next::next;
 use cells::t643;
 use guideline::Refusal;
 use guideline::Row643;
@@ -46,10 +47,10 @@ pub struct Filtered {
 fn is_aged(r: Row643, category: u32, age: u32) -> bool
     ensures { λ b. ⌜ b ≡ aged category age r ⌝ }
 {
-    if r.gpdcat != category {
-        return false;
-    }
-    filter::enclose_months(t643::age_bounds(r), age)
+    guideline::both(
+        r.gpdcat == category,
+        filter::enclose_months(t643::age_bounds(r), age),
+    )
 }
 
 impl Remembered {
@@ -61,10 +62,10 @@ impl Remembered {
         let rows = t.len() / t643::ROW;
         let mut at = [0usize; 512];
         let mut len: usize = 0;
-        let mut i: usize = 0;
+        let mut i = next(t, t643::WIDTH, t643::KEY, category, 0);
         while i < rows {
             let row = i;
-            i += 1;
+            i = next(t, t643::WIDTH, t643::KEY, category, row + 1);
             if is_aged(t643::row(t, row), category, age) {
                 at[len] = row;
                 len += 1;

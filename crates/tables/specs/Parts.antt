@@ -9,6 +9,7 @@ use lib.Dec.{eqb}
 use Rattle.guideline.specs.Table.{Table, among}
 use Rattle.guideline.specs.Bytes.{row640, width640, row641, width641, row642, width642, row643, width643, row649, width649, row730, width730}
 use Rattle.guideline.specs.Steps.{gpk-row, of-gpk, of-basis, of-category, rule-row, unit-row}
+use Rattle.tables.specs.Tests.{other-code}
 use Rattle.cells.specs.Parts.{Part, Reads, part-answers}
 use Rattle.cells.specs.Lents.{rows, rows640, rows641, rows642, rows643, rows649, rows730}
 
@@ -30,10 +31,6 @@ reads649 f g h = rw (h 0 (omega arith), h 1 (omega arith), h 2 (omega arith), h 
 
 reads730 : Reads width730 row730
 reads730 f g h = rw (h 0 (omega arith), h 1 (omega arith), h 2 (omega arith), h 3 (omega arith), h 4 (omega arith))
-
-and-false : (b : Bool) → (b && false) ≡ false
-and-false true = refl
-and-false false = refl
 
 module _ {key : ℕ} {l m : List ℕ} where
   pub part640 : Part width640 0 key l m → rows640 m (gpk-row key) ≡ rows640 l (gpk-row key)
@@ -61,4 +58,4 @@ module _ {key : ℕ} {l m : List ℕ} where
 
   pub part730 : Part width730 1 key l m → (srtcde unit : ℕ) → rows730 m (unit-row srtcde key unit) ≡ rows730 l (unit-row srtcde key unit)
   unfolding rows unit-row
-  part730 q srtcde unit = part-answers row730 (unit-row srtcde key unit) (omega arith) reads730 (λ f other. rw (ne-eqb (f 1) key other) (and-false (eqb (f 0) srtcde))) q
+  part730 q srtcde unit = part-answers row730 (unit-row srtcde key unit) (omega arith) reads730 (λ f other. other-code srtcde key unit (row730 f) other) q

@@ -1,14 +1,15 @@
 -- What the code asks of a table: each test as the property of a row that it stands for.
 use Prim.Native.Nat.{ℕ}
 use mathlib.Core.Path.{_≡_}
-use mathlib.Core.Bool.{Bool, false, _&&_}
+use mathlib.Core.Bool.{Bool, false, _&&_, and-false}
 use borrow.Author.Tests.{ne-eqb}
 use lib.Dec.{eqb}
 use Rattle.guideline.specs.declared.Row641.{Row641}
 use Rattle.guideline.specs.declared.Row642.{Row642}
 use Rattle.guideline.specs.declared.Row643.{Row643}
+use Rattle.guideline.specs.declared.Row730.{Row730}
 use Rattle.guideline.specs.Table.{every}
-use Rattle.guideline.specs.Steps.{of-gpk, hpk-level, prk-level, base-level, of-basis, of-care, of-reason, of-route, of-category}
+use Rattle.guideline.specs.Steps.{of-gpk, hpk-level, prk-level, base-level, of-basis, of-care, of-reason, of-route, of-category, unit-row}
 use Rattle.tables.specs.declared.t641.Test641.{Test641}
 use Rattle.tables.specs.declared.t641.Test641.the-variants.{HpkLevel, Hpk, PrkLevel, Prk, BaseLevel}
 use Rattle.tables.specs.declared.t642.Test642.{Test642}
@@ -60,3 +61,7 @@ other-basis (Route basis s) r h = rw (ne-eqb (r .gpdbas) basis h)
 
 abbrev pub test643 : ℕ → Row643 → Bool
 test643 category r = of-category category r && every r
+
+pub other-code : (srtcde code unit : ℕ) (r : Row730) → (r .code ≡ code → ⊥) → unit-row srtcde code unit r ≡ false
+unfolding unit-row
+other-code srtcde code unit r h = rw (ne-eqb (r .code) code h) (and-false (eqb (r .srtcde) srtcde))

@@ -6,9 +6,6 @@ ghost use Rattle.tables.specs.Found.{found640};
 use cells::t640;
 use guideline::Row640;
 
-// Which of its numbers is GPKODE, the key.
-const KEY: usize = 0;
-
 pub enum Found640 {
     Nothing,
     One(Row640),
@@ -18,8 +15,8 @@ pub enum Found640 {
 pub fn ask(t: &[u8], gpk: u32) -> Found640
     ensures { λ r. ⌜ r ≡ found640 (rows640 (now (t .entry)) (gpk-row gpk)) ⌝ }
 {
-    let part = cells::part::part(t, t640::WIDTH, KEY, gpk);
-    let tally = cells::keyed::keyed(part, t640::WIDTH, KEY, gpk);
+    let part = cells::part::part(t, t640::WIDTH, t640::KEY, gpk);
+    let tally = cells::keyed::keyed(part, t640::WIDTH, t640::KEY, gpk);
     let count = tally.count;
     match count {
         0 => Found640::Nothing,

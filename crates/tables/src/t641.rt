@@ -10,11 +10,9 @@ ghost use Rattle.tables.specs.Tests.{test641, key641};
 ghost use Rattle.cells.specs.Lents.{rows641};
 ghost use Rattle.tables.specs.Found.{found641};
 use cells::Tally;
+use cells::next::next;
 use cells::t641;
 use guideline::Row641;
-
-// Which of its numbers is GPKODE, the key.
-const KEY: usize = 0;
 
 // What may be asked of a row.
 pub enum Test641 {
@@ -52,7 +50,7 @@ fn prk_level(r: Row641) -> bool
 pub fn of_gpk(t: &[u8], gpk: u32) -> &[u8]
     ensures { λ r. ⌜ among (of-gpk gpk) (rows641 (now r)) ≡ among (of-gpk gpk) (rows641 (now (t .entry))) ⌝ }
 {
-    cells::part::part(t, t641::WIDTH, KEY, gpk)
+    cells::part::part(t, t641::WIDTH, t641::KEY, gpk)
 }
 
 fn passes(r: Row641, test: Test641) -> bool
@@ -86,7 +84,6 @@ fn key(test: Test641) -> u32
     }
 }
 
-// Most rows are told by their first number, so the others are not read.
 fn tally(t: &[u8], test: Test641) -> Tally
     ensures { λ r. ⌜ r ≡ tallied (λ i. test641 test (row641 (cell width641 (now (t .entry)) i))) (length (now (t .entry)) / 20) ⌝ }
 {
@@ -94,15 +91,13 @@ fn tally(t: &[u8], test: Test641) -> Tally
     let gpk = key(test);
     let mut count: usize = 0;
     let mut last: usize = 0;
-    let mut i: usize = 0;
+    let mut i = next(t, t641::WIDTH, t641::KEY, gpk, 0);
     while i < rows {
         let here = i;
-        i += 1;
-        if cells::cell(t, t641::WIDTH, here, KEY) == gpk {
-            if passes(t641::row(t, here), test) {
-                count += 1;
-                last = here;
-            }
+        i = next(t, t641::WIDTH, t641::KEY, gpk, here + 1);
+        if passes(t641::row(t, here), test) {
+            count += 1;
+            last = here;
         }
     }
     Tally { count, last }

@@ -10,12 +10,10 @@ ghost use Rattle.tables.specs.Tests.{test642, key642};
 ghost use Rattle.cells.specs.Lents.{rows642};
 ghost use Rattle.tables.specs.Found.{found642};
 use cells::Tally;
+use cells::next::next;
 use cells::t642;
 use guideline::Row642;
 use guideline::Setting;
-
-// Which of its numbers is GPDBAS, the key.
-const KEY: usize = 0;
 
 // What may be asked of a row.
 pub enum Test642 {
@@ -40,7 +38,7 @@ fn of_reason(r: Row642, s: Setting) -> bool
 pub fn of_basis(t: &[u8], basis: u32) -> &[u8]
     ensures { λ r. ⌜ among (of-basis basis) (rows642 (now r)) ≡ among (of-basis basis) (rows642 (now (t .entry))) ⌝ }
 {
-    cells::part::part(t, t642::WIDTH, KEY, basis)
+    cells::part::part(t, t642::WIDTH, t642::KEY, basis)
 }
 
 fn passes(r: Row642, test: Test642) -> bool
@@ -73,7 +71,6 @@ fn key(test: Test642) -> u32
     }
 }
 
-// Most rows are told by their first number, so the others are not read.
 fn tally(t: &[u8], test: Test642) -> Tally
     ensures { λ r. ⌜ r ≡ tallied (λ i. test642 test (row642 (cell width642 (now (t .entry)) i))) (length (now (t .entry)) / 24) ⌝ }
 {
@@ -81,15 +78,13 @@ fn tally(t: &[u8], test: Test642) -> Tally
     let basis = key(test);
     let mut count: usize = 0;
     let mut last: usize = 0;
-    let mut i: usize = 0;
+    let mut i = next(t, t642::WIDTH, t642::KEY, basis, 0);
     while i < rows {
         let here = i;
-        i += 1;
-        if cells::cell(t, t642::WIDTH, here, KEY) == basis {
-            if passes(t642::row(t, here), test) {
-                count += 1;
-                last = here;
-            }
+        i = next(t, t642::WIDTH, t642::KEY, basis, here + 1);
+        if passes(t642::row(t, here), test) {
+            count += 1;
+            last = here;
         }
     }
     Tally { count, last }

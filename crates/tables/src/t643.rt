@@ -6,20 +6,17 @@ ghost use Rattle.cells.specs.Lents.{rows643};
 ghost use Rattle.tables.specs.Tests.{test643};
 use cells::t643;
 
-// Which of its numbers is GPDCAT, the key.
-const KEY: usize = 0;
-
 // The part of the table where a category stands: asked about rows of the category, it answers as the table does.
 pub fn of_category(t: &[u8], category: u32) -> &[u8]
     ensures { λ r. ⌜ among (of-category category) (rows643 (now r)) ≡ among (of-category category) (rows643 (now (t .entry))) ⌝ }
 {
-    cells::part::part(t, t643::WIDTH, KEY, category)
+    cells::part::part(t, t643::WIDTH, t643::KEY, category)
 }
 
 // How many rows has the category?
 pub fn number(t: &[u8], category: u32) -> usize
     ensures { λ r. ⌜ r ≡ number (rows643 (now (t .entry)) (test643 category)) ⌝ }
 {
-    let tally = cells::keyed::keyed(t, t643::WIDTH, KEY, category);
+    let tally = cells::keyed::keyed(t, t643::WIDTH, t643::KEY, category);
     tally.count
 }

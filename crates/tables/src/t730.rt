@@ -8,11 +8,9 @@ ghost use Rattle.cells.specs.Tally.{tallied};
 ghost use Rattle.cells.specs.Lents.{rows730};
 ghost use Rattle.tables.specs.Found.{found730};
 use cells::Tally;
+use cells::next::next;
 use cells::t730;
 use guideline::Row730;
-
-// Which of its numbers is CODE, the key.
-const KEY: usize = 1;
 
 pub enum Found730 {
     Nothing,
@@ -24,17 +22,16 @@ pub enum Found730 {
 pub fn of_code(t: &[u8], code: u32) -> &[u8]
     ensures { λ r. ⌜ ((srtcde unit : ℕ) → rows730 (now r) (unit-row srtcde code unit) ≡ rows730 (now (t .entry)) (unit-row srtcde code unit)) ⌝ }
 {
-    cells::part::part(t, t730::WIDTH, KEY, code)
+    cells::part::part(t, t730::WIDTH, t730::KEY, code)
 }
 
-// Most rows are told by their code, so the other numbers are not read.
 fn is_unit(r: Row730, srtcde: u32, code: u32, unit: u32) -> bool
     ensures { λ b. ⌜ b ≡ unit-row srtcde code unit r ⌝ }
 {
-    if r.code != code {
-        return false;
-    }
-    guideline::both(r.srtcde == srtcde, r.cdeenh == unit)
+    guideline::both(
+        r.srtcde == srtcde,
+        guideline::both(r.code == code, r.cdeenh == unit),
+    )
 }
 
 fn tally(t: &[u8], srtcde: u32, code: u32, unit: u32) -> Tally
@@ -43,10 +40,10 @@ fn tally(t: &[u8], srtcde: u32, code: u32, unit: u32) -> Tally
     let rows = t.len() / t730::ROW;
     let mut count: usize = 0;
     let mut last: usize = 0;
-    let mut i: usize = 0;
+    let mut i = next(t, t730::WIDTH, t730::KEY, code, 0);
     while i < rows {
         let here = i;
-        i += 1;
+        i = next(t, t730::WIDTH, t730::KEY, code, here + 1);
         if is_unit(t730::row(t, here), srtcde, code, unit) {
             count += 1;
             last = here;

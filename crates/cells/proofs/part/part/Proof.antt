@@ -11,18 +11,18 @@ use Rattle.cells.proofs.part.part.Tie as tie
 use Rattle.cells.proofs.part.part.Reads as reads
 use Rattle.cells.proofs.part.part.Lts as lts
 use Rattle.cells.proofs.part.end.Reads as end-reads
-use Rattle.cells.proofs.part.first.Reads as first-reads
+use Rattle.cells.proofs.next.next.Reads as next-reads
 
 abbrev After-end : Type 0
-After-end = lts.After-end (first-reads.Asked, first-reads.Learnt, end-reads.Asked, end-reads.Learnt) reads.Pre reads.Post
+After-end = lts.After-end (next-reads.Asked, next-reads.Learnt, end-reads.Asked, end-reads.Learnt) reads.Pre reads.Post
 
-from-inside : (c : After-end) → c .before .first .result * (c .before .before .before .args .width * 4) ≤ length (now (c .before .before .before .args .t))
-from-inside c = let a = c .before .before .before .args in row-inside (a .width) (c .before .first .result) (now (a .t)) (c .before .first .ensures .0)
+from-inside : (c : After-end) → c .before .next .result * (c .before .before .before .args .width * 4) ≤ length (now (c .before .before .before .args .t))
+from-inside c = let a = c .before .before .before .args in row-inside (a .width) (c .before .next .result) (now (a .t)) (c .before .next .ensures .1)
 
 to-inside : (c : After-end) → c .end .result * (c .before .before .before .args .width * 4) ≤ length (now (c .before .before .before .args .t))
 to-inside c = let a = c .before .before .before .args in row-inside (a .width) (c .end .result) (now (a .t)) (c .end .ensures .1)
 
-in-order : (c : After-end) → c .before .first .result * (c .before .before .before .args .width * 4) ≤ c .end .result * (c .before .before .before .args .width * 4)
+in-order : (c : After-end) → c .before .next .result * (c .before .before .before .args .width * 4) ≤ c .end .result * (c .before .before .before .args .width * 4)
 in-order c = mul-le-mul-right (c .before .before .before .args .width * 4) (c .end .ensures .0)
 
 mul-a : tie.Need-mul-a
@@ -43,12 +43,12 @@ part-result-end c = to-inside c
 returns : tie.Need-returns
 returns c =
     record {
-      from = c .before .before .first .result;
+      from = c .before .before .next .result;
       to = c .before .end .result;
       ordered = c .before .end .ensures .0;
       inside = c .before .end .ensures .1;
       cut = refl;
-      before = c .before .before .first .ensures .1;
+      before = c .before .before .next .ensures .2;
       after = c .before .end .ensures .2;
     }
 

@@ -5,14 +5,14 @@ use mathlib.Core.Path.{_∙_}
 use native.Mathlib.Omega.{arith}
 use denote.Ref.{now}
 use Rattle.cells.specs.Parts.{Without, without-one, without-both, cell-inside, rows-most}
-use Rattle.cells.proofs.part.first.Statement.{statement}
-use Rattle.cells.proofs.part.first.Tie as tie
+use Rattle.cells.proofs.next.next.Statement.{statement}
+use Rattle.cells.proofs.next.next.Tie as tie
 
 abbrev Inv-loop : tie.InvT-loop
-Inv-loop t width k key rows i₀ i = (i ≤ rows) × Without width k key t 0 i
+Inv-loop t width k key from rows i₀ i = (from ≤ i) × (i ≤ rows) × Without width k key t from i
 
 abbrev μ-loop : tie.MeasureT-loop
-μ-loop t width k key rows i₀ i = rows - i
+μ-loop t width k key from rows i₀ i = rows - i
 
 loop-holds : tie.Need-loop-holds Inv-loop μ-loop
 loop-holds c = c .fours .ensures
@@ -35,10 +35,10 @@ loop-again : tie.Need-loop-again Inv-loop μ-loop
 loop-again c =
     let a = c .before .before .before .before .before .before .args in
     let i = c .before .before .before .loop .i in
-    (omega arith, without-both (a .width) (a .k) (a .key) (now (a .t)) 0 i (i + 1) (c .before .before .before .loop .inv .1) (without-one (a .width) (a .k) (a .key) (now (a .t)) i (λ same. c .if1 .left (c .before .cell .ensures ∙ same))))
+    (omega arith, omega arith, without-both (a .width) (a .k) (a .key) (now (a .t)) (a .from) i (i + 1) (c .before .before .before .loop .inv .2) (without-one (a .width) (a .k) (a .key) (now (a .t)) i (λ same. c .if1 .left (c .before .cell .ensures ∙ same))))
 
 returns-2 : tie.Need-returns-2 Inv-loop μ-loop
-returns-2 c = (omega arith, λ i above below. c .before .loop .inv .1 i above (omega arith))
+returns-2 c = (omega arith, omega arith, λ i above below. c .before .loop .inv .2 i above (omega arith))
 
-pub first-spec : {M : Type 1} → statement M
-first-spec = tie.close (tie.spec Inv-loop μ-loop (λ c. search needs) (λ c. search needs) (λ c κs. search needs) loop-holds cell-requires returns add-i (λ c. search needs) loop-again returns-2)
+pub next-spec : {M : Type 1} → statement M
+next-spec = tie.close (tie.spec Inv-loop μ-loop (λ c. search needs) (λ c. search needs) (λ c κs. search needs) loop-holds cell-requires returns add-i (λ c. search needs) loop-again returns-2)

@@ -4,19 +4,19 @@ use Prim.Native.Nat.{_+_, _-_, _≤_}
 use native.Mathlib.Omega.{arith}
 use denote.Ref.{now}
 use Rattle.cells.specs.Parts.{Without, without-none, without-four, without-both, rows-most}
-use Rattle.cells.proofs.part.fours.Statement.{statement}
-use Rattle.cells.proofs.part.fours.Tie as tie
+use Rattle.cells.proofs.next.fours.Statement.{statement}
+use Rattle.cells.proofs.next.fours.Tie as tie
 
 abbrev Inv-loop : tie.InvT-loop
-Inv-loop t width k key rows i₀ i = (i ≤ rows) × Without width k key t 0 i
+Inv-loop t width k key from rows i₀ i = (from ≤ i) × (i ≤ rows) × Without width k key t from i
 
 abbrev μ-loop : tie.MeasureT-loop
-μ-loop t width k key rows i₀ i = rows - i
+μ-loop t width k key from rows i₀ i = rows - i
 
 loop-holds : tie.Need-loop-holds Inv-loop μ-loop
 loop-holds c =
     let a = c .before .args in
-    (omega arith, without-none (a .width) (a .k) (a .key) (now (a .t)) 0)
+    (omega arith, omega arith, without-none (a .width) (a .k) (a .key) (now (a .t)) (a .from))
 
 returns : tie.Need-returns Inv-loop μ-loop
 returns c = c .before .before .before .loop .inv
@@ -31,7 +31,7 @@ loop-again : tie.Need-loop-again Inv-loop μ-loop
 loop-again c =
     let a = c .before .before .before .before .before .args in
     let i = c .before .before .before .loop .i in
-    (omega arith, without-both (a .width) (a .k) (a .key) (now (a .t)) 0 i (i + 4) (c .before .before .before .loop .inv .1) (without-four (a .width) (a .k) (a .key) (now (a .t)) i (rw (← c .before .in-four .ensures) (c .if1 .left))))
+    (omega arith, omega arith, without-both (a .width) (a .k) (a .key) (now (a .t)) (a .from) i (i + 4) (c .before .before .before .loop .inv .2) (without-four (a .width) (a .k) (a .key) (now (a .t)) i (rw (← c .before .in-four .ensures) (c .if1 .left))))
 
 returns-2 : tie.Need-returns-2 Inv-loop μ-loop
 returns-2 c = c .before .loop .inv

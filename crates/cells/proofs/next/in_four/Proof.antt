@@ -4,8 +4,8 @@ use Prim.Native.Nat.{_+_}
 use native.Mathlib.Omega.{arith}
 use denote.Ref.{now}
 use Rattle.cells.specs.Parts.{in-four, cell-inside, rows-most}
-use Rattle.cells.proofs.part.in_four.Statement.{statement}
-use Rattle.cells.proofs.part.in_four.Tie as tie
+use Rattle.cells.proofs.next.in_four.Statement.{statement}
+use Rattle.cells.proofs.next.in_four.Tie as tie
 
 cell-requires : tie.Need-cell-requires
 cell-requires c κs =
