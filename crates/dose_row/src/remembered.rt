@@ -13,10 +13,10 @@ ghost use Rattle.dose_row.specs.Remembered.{remembered, Valid, Thinned, 
 use crate::filter;
 use crate::filter::Filter;
 use crate::filter::Frequency;
-use cells::next::next;
 use cells::t643;
 use guideline::Refusal;
 use guideline::Row643;
+use parts::next::next;
 
 pub const MOST: usize = 512;
 

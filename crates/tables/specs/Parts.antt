@@ -10,7 +10,7 @@ use Rattle.guideline.specs.Table.{Table, among}
 use Rattle.guideline.specs.Bytes.{row640, width640, row641, width641, row642, width642, row643, width643, row649, width649, row730, width730}
 use Rattle.guideline.specs.Steps.{gpk-row, of-gpk, of-basis, of-category, rule-row, unit-row}
 use Rattle.tables.specs.Tests.{other-code}
-use Rattle.cells.specs.Parts.{Part, Reads, part-answers}
+use Rattle.parts.specs.Parts.{Part, Reads, part-answers}
 use Rattle.cells.specs.Lents.{rows, rows640, rows641, rows642, rows643, rows649, rows730}
 
 reads640 : Reads width640 row640

@@ -15,8 +15,8 @@ pub enum Found640 {
 pub fn ask(t: &[u8], gpk: u32) -> Found640
     ensures { λ r. ⌜ r ≡ found640 (rows640 (now (t .entry)) (gpk-row gpk)) ⌝ }
 {
-    let part = cells::part::part(t, t640::WIDTH, t640::KEY, gpk);
-    let tally = cells::keyed::keyed(part, t640::WIDTH, t640::KEY, gpk);
+    let part = parts::part::part(t, t640::WIDTH, t640::KEY, gpk);
+    let tally = parts::keyed::keyed(part, t640::WIDTH, t640::KEY, gpk);
     let count = tally.count;
     match count {
         0 => Found640::Nothing,

@@ -10,9 +10,9 @@ ghost use Rattle.tables.specs.Tests.{test641, key641};
 ghost use Rattle.cells.specs.Lents.{rows641};
 ghost use Rattle.tables.specs.Found.{found641};
 use cells::Tally;
-use cells::next::next;
 use cells::t641;
 use guideline::Row641;
+use parts::next::next;
 
 // What may be asked of a row.
 pub enum Test641 {
@@ -50,7 +50,7 @@ fn prk_level(r: Row641) -> bool
 pub fn of_gpk(t: &[u8], gpk: u32) -> &[u8]
     ensures { λ r. ⌜ among (of-gpk gpk) (rows641 (now r)) ≡ among (of-gpk gpk) (rows641 (now (t .entry))) ⌝ }
 {
-    cells::part::part(t, t641::WIDTH, t641::KEY, gpk)
+    parts::part::part(t, t641::WIDTH, t641::KEY, gpk)
 }
 
 fn passes(r: Row641, test: Test641) -> bool

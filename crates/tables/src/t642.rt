@@ -10,10 +10,10 @@ ghost use Rattle.tables.specs.Tests.{test642, key642};
 ghost use Rattle.cells.specs.Lents.{rows642};
 ghost use Rattle.tables.specs.Found.{found642};
 use cells::Tally;
-use cells::next::next;
 use cells::t642;
 use guideline::Row642;
 use guideline::Setting;
+use parts::next::next;
 
 // What may be asked of a row.
 pub enum Test642 {
@@ -38,7 +38,7 @@ fn of_reason(r: Row642, s: Setting) -> bool
 pub fn of_basis(t: &[u8], basis: u32) -> &[u8]
     ensures { λ r. ⌜ among (of-basis basis) (rows642 (now r)) ≡ among (of-basis basis) (rows642 (now (t .entry))) ⌝ }
 {
-    cells::part::part(t, t642::WIDTH, t642::KEY, basis)
+    parts::part::part(t, t642::WIDTH, t642::KEY, basis)
 }
 
 fn passes(r: Row642, test: Test642) -> bool

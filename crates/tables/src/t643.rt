@@ -10,13 +10,13 @@ use cells::t643;
 pub fn of_category(t: &[u8], category: u32) -> &[u8]
     ensures { λ r. ⌜ among (of-category category) (rows643 (now r)) ≡ among (of-category category) (rows643 (now (t .entry))) ⌝ }
 {
-    cells::part::part(t, t643::WIDTH, t643::KEY, category)
+    parts::part::part(t, t643::WIDTH, t643::KEY, category)
 }
 
 // How many rows has the category?
 pub fn number(t: &[u8], category: u32) -> usize
     ensures { λ r. ⌜ r ≡ number (rows643 (now (t .entry)) (test643 category)) ⌝ }
 {
-    let tally = cells::keyed::keyed(t, t643::WIDTH, t643::KEY, category);
+    let tally = parts::keyed::keyed(t, t643::WIDTH, t643::KEY, category);
     tally.count
 }

@@ -15,8 +15,8 @@ pub enum Found649 {
 pub fn ask(t: &[u8], rule: u32) -> Found649
     ensures { λ r. ⌜ r ≡ found649 (rows649 (now (t .entry)) (rule-row rule)) ⌝ }
 {
-    let part = cells::part::part(t, t649::WIDTH, t649::KEY, rule);
-    let tally = cells::keyed::keyed(part, t649::WIDTH, t649::KEY, rule);
+    let part = parts::part::part(t, t649::WIDTH, t649::KEY, rule);
+    let tally = parts::keyed::keyed(part, t649::WIDTH, t649::KEY, rule);
     let count = tally.count;
     match count {
         0 => Found649::Nothing,

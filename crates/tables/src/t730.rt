@@ -8,9 +8,9 @@ ghost use Rattle.cells.specs.Tally.{tallied};
 ghost use Rattle.cells.specs.Lents.{rows730};
 ghost use Rattle.tables.specs.Found.{found730};
 use cells::Tally;
-use cells::next::next;
 use cells::t730;
 use guideline::Row730;
+use parts::next::next;
 
 pub enum Found730 {
     Nothing,
@@ -22,7 +22,7 @@ pub enum Found730 {
 pub fn of_code(t: &[u8], code: u32) -> &[u8]
     ensures { λ r. ⌜ ((srtcde unit : ℕ) → rows730 (now r) (unit-row srtcde code unit) ≡ rows730 (now (t .entry)) (unit-row srtcde code unit)) ⌝ }
 {
-    cells::part::part(t, t730::WIDTH, t730::KEY, code)
+    parts::part::part(t, t730::WIDTH, t730::KEY, code)
 }
 
 fn is_unit(r: Row730, srtcde: u32, code: u32, unit: u32) -> bool

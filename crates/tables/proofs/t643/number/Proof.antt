@@ -9,7 +9,7 @@ use Rattle.guideline.specs.Bytes.{cell, row643, width643}
 use Rattle.guideline.specs.Steps.{of-category}
 use Rattle.tables.specs.Tests.{test643}
 use Rattle.cells.specs.Lents.{rows-number}
-use Rattle.cells.specs.Parts.{rows-in}
+use Rattle.parts.specs.Parts.{rows-in}
 use Rattle.cells.specs.Tally.{tallied}
 use Rattle.tables.proofs.t643.number.Statement.{statement}
 use Rattle.tables.proofs.t643.number.Tie as tie

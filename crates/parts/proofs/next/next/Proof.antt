@@ -4,9 +4,9 @@ use Prim.Native.Nat.{_+_, _-_, _≤_}
 use mathlib.Core.Path.{_∙_}
 use native.Mathlib.Omega.{arith}
 use denote.Ref.{now}
-use Rattle.cells.specs.Parts.{Without, without-one, without-both, cell-inside, rows-most}
-use Rattle.cells.proofs.next.next.Statement.{statement}
-use Rattle.cells.proofs.next.next.Tie as tie
+use Rattle.parts.specs.Parts.{Without, without-one, without-both, cell-inside, rows-most}
+use Rattle.parts.proofs.next.next.Statement.{statement}
+use Rattle.parts.proofs.next.next.Tie as tie
 
 abbrev Inv-loop : tie.InvT-loop
 Inv-loop t width k key from rows i₀ i = (from ≤ i) × (i ≤ rows) × Without width k key t from i

@@ -4,9 +4,9 @@ use Prim.Native.Nat.{_+_, _-_, _≤_}
 use mathlib.Core.Path.{_∙_}
 use native.Mathlib.Omega.{arith}
 use denote.Ref.{now}
-use Rattle.cells.specs.Parts.{Without, rows-in, without-one, without-both, cell-inside}
-use Rattle.cells.proofs.part.end.Statement.{statement}
-use Rattle.cells.proofs.part.end.Tie as tie
+use Rattle.parts.specs.Parts.{Without, rows-in, without-one, without-both, cell-inside}
+use Rattle.parts.proofs.part.end.Statement.{statement}
+use Rattle.parts.proofs.part.end.Tie as tie
 
 abbrev Inv-loop : tie.InvT-loop
 Inv-loop t width k key from i₀ i = (from ≤ i) × (i ≤ rows-in width t) × Without width k key t i (rows-in width t)

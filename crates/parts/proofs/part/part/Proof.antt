@@ -5,13 +5,13 @@ use native.Mathlib.Nat.{mul-le-mul-right}
 use denote.Ref.{now}
 use mathlib.Core.Path.{refl}
 use lib.ListN.{length}
-use Rattle.cells.specs.Parts.{row-inside}
-use Rattle.cells.proofs.part.part.Statement.{statement}
-use Rattle.cells.proofs.part.part.Tie as tie
-use Rattle.cells.proofs.part.part.Reads as reads
-use Rattle.cells.proofs.part.part.Lts as lts
-use Rattle.cells.proofs.part.end.Reads as end-reads
-use Rattle.cells.proofs.next.next.Reads as next-reads
+use Rattle.parts.specs.Parts.{row-inside}
+use Rattle.parts.proofs.part.part.Statement.{statement}
+use Rattle.parts.proofs.part.part.Tie as tie
+use Rattle.parts.proofs.part.part.Reads as reads
+use Rattle.parts.proofs.part.part.Lts as lts
+use Rattle.parts.proofs.part.end.Reads as end-reads
+use Rattle.parts.proofs.next.next.Reads as next-reads
 
 abbrev After-end : Type 0
 After-end = lts.After-end (next-reads.Asked, next-reads.Learnt, end-reads.Asked, end-reads.Learnt) reads.Pre reads.Post

@@ -1,7 +1,7 @@
 // The part of a table where a key stands. A table is scanned once for it; what is asked of the rows with the key is then asked of the part.
 ghost use mathlib.Core.Path.{_≡_};
 ghost use Prim.Native.Nat.{_≤_, _<_};
-ghost use Rattle.cells.specs.Parts.{Part, Without, rows-in};
+ghost use Rattle.parts.specs.Parts.{Part, Without, rows-in};
 use crate::next::in_four;
 use crate::next::next;
 
@@ -29,7 +29,7 @@ fn end(t: &[u8], width: usize, k: usize, key: u32, from: usize) -> usize
     let mut i = fours_back(t, width, k, key, from);
     while from < i {
         let here = i - 1;
-        if crate::cell(t, width, here, k) == key {
+        if cells::cell(t, width, here, k) == key {
             return i;
         }
         i = here;

@@ -1,17 +1,17 @@
 // The next row with a key. Most of a table is passed over four rows at a time.
 ghost use mathlib.Core.Path.{_≡_};
 ghost use Prim.Native.Nat.{_+_, _≤_, _<_};
-ghost use Rattle.cells.specs.Parts.{Without, in-four, rows-in};
+ghost use Rattle.parts.specs.Parts.{Without, in-four, rows-in};
 
 // Has one of four rows the key?
 pub fn in_four(t: &[u8], width: usize, k: usize, key: u32, at: usize) -> bool
     requires { ⌜ (k < width) × (width ≤ 16) × (at + 4 ≤ rows-in width (now t)) ⌝ }
     ensures { λ r. ⌜ r ≡ in-four width k key (now (t .entry)) at ⌝ }
 {
-    let a = crate::cell(t, width, at, k) == key;
-    let b = crate::cell(t, width, at + 1, k) == key;
-    let c = crate::cell(t, width, at + 2, k) == key;
-    let d = crate::cell(t, width, at + 3, k) == key;
+    let a = cells::cell(t, width, at, k) == key;
+    let b = cells::cell(t, width, at + 1, k) == key;
+    let c = cells::cell(t, width, at + 2, k) == key;
+    let d = cells::cell(t, width, at + 3, k) == key;
     guideline::either(guideline::either(a, b), guideline::either(c, d))
 }
 
@@ -39,7 +39,7 @@ pub fn next(t: &[u8], width: usize, k: usize, key: u32, from: usize) -> usize
     let rows = t.len() / (width * 4);
     let mut i = fours(t, width, k, key, from);
     while i < rows {
-        if crate::cell(t, width, i, k) == key {
+        if cells::cell(t, width, i, k) == key {
             return i;
         }
         i += 1;
