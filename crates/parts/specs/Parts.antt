@@ -30,15 +30,23 @@ unfoldable pub in-four : ℕ → ℕ → ℕ → List ℕ → ℕ → Bool
 in-four w k key l i =
     (has-key w k key l i || has-key w k key l (i + 1)) || (has-key w k key l (i + 2) || has-key w k key l (i + 3))
 
--- m is the rows of l from one on and below another; the key stands in no other row
+-- the first row with the key, from a row on; the number of rows if there is none
+abbrev pub Next : ℕ → ℕ → ℕ → List ℕ → ℕ → ℕ → Type 0
+Next w k key l from r =
+    (from ≤ r) × (r ≤ rows-in w l) × Without w k key l from r × (r < rows-in w l → cell w l r k ≡ key)
+
+-- one past the last row with the key; `from` if there is none from there on
+abbrev pub Past : ℕ → ℕ → ℕ → List ℕ → ℕ → ℕ → Type 0
+Past w k key l from r =
+    (from ≤ r) × (r ≤ rows-in w l) × Without w k key l r (rows-in w l) × (from < r → cell w l (r - 1) k ≡ key)
+
+-- m is the rows of l from the first with the key to the last
 pub record Part (w k key : ℕ) (l m : List ℕ) : Type 0 where
   pub from : ℕ
   pub to : ℕ
-  pub ordered : from ≤ to
-  pub inside : to ≤ rows-in w l
+  pub first : Next w k key l 0 from
+  pub last : Past w k key l from to
   pub cut : m ≡ take (to * (w * 4) - from * (w * 4)) (drop (from * (w * 4)) l)
-  pub before : Without w k key l 0 from
-  pub after : Without w k key l to (rows-in w l)
 
 -- no rows; one row; four rows; rows and further rows
 module _ (w k key : ℕ) (l : List ℕ) where
@@ -113,8 +121,8 @@ module _ {w k key : ℕ} {l m : List ℕ} (in-row : k < w) (q : Part w k key l m
 
   part-length : length m ≡ q .to * (w * 4) - skipped
   part-length =
-      let a : skipped ≤ q .to * (w * 4) = mul-le-mul-right (w * 4) (q .ordered) in
-      let b : q .to * (w * 4) ≤ length l = row-inside w (q .to) l (q .inside) in
+      let a : skipped ≤ q .to * (w * 4) = mul-le-mul-right (w * 4) (q .last .0) in
+      let b : q .to * (w * 4) ≤ length l = row-inside w (q .to) l (q .last .1) in
       let d : length (drop skipped l) ≡ length l - skipped = length-drop skipped l in
       ap length (q .cut) ∙ length-take-le (q .to * (w * 4) - skipped) (drop skipped l) (omega arith)
 
@@ -177,9 +185,9 @@ part-answers {A} {w} {k} {key} {l} {m} read p in-row reads other q =
     ap hits
     (ap (keep p) (listed-same own shifted (rows-in w m) (λ i below. reads (cell w m i) (cell w l (q .from + i)) (λ j. part-cell in-row q i j (rw (← part-rows in-row q) below))))
     ∙ ap (λ (n : ℕ). keep p (listed n shifted)) (part-rows in-row q)
-    ∙ sym (keep-from p row (q .from) (q .to - q .from) (λ i below. other (cell w l i) (q .before i (omega arith) below)))
+    ∙ sym (keep-from p row (q .from) (q .to - q .from) (λ i below. other (cell w l i) (q .first .2 i (omega arith) below)))
     ∙ ap (λ (n : ℕ). keep p (listed n row)) up-to
-    ∙ sym (keep-below p row (q .to) (rows-in w l) (q .inside) (λ i above below. other (cell w l i) (q .after i above below))))
+    ∙ sym (keep-below p row (q .to) (rows-in w l) (q .last .1) (λ i above below. other (cell w l i) (q .last .2 i above below))))
   where
     own : ℕ → A
     own i = read (cell w m i)
@@ -191,4 +199,4 @@ part-answers {A} {w} {k} {key} {l} {m} read p in-row reads other q =
     shifted i = row (q .from + i)
 
     up-to : q .from + (q .to - q .from) ≡ q .to
-    up-to = let h : q .from ≤ q .to = q .ordered in omega arith
+    up-to = let h : q .from ≤ q .to = q .last .0 in omega arith

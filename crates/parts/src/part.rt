@@ -1,7 +1,7 @@
 // The part of a table where a key stands. A table is scanned once for it; what is asked of the rows with the key is then asked of the part.
 ghost use mathlib.Core.Path.{_≡_};
 ghost use Prim.Native.Nat.{_≤_, _<_};
-ghost use Rattle.parts.specs.Parts.{Part, Without, rows-in};
+ghost use Rattle.parts.specs.Parts.{Part, Past, Without, rows-in};
 use crate::next::in_four;
 use crate::next::next;
 
@@ -24,7 +24,7 @@ fn fours_back(t: &[u8], width: usize, k: usize, key: u32, from: usize) -> usize
 // How many rows stand up to the last whose number k is the key, of which there is none before `from`.
 fn end(t: &[u8], width: usize, k: usize, key: u32, from: usize) -> usize
     requires { ⌜ (k < width) × (width ≤ 16) × (from ≤ rows-in width (now t)) ⌝ }
-    ensures { λ r. ⌜ (from ≤ r) × (r ≤ rows-in width (now (t .entry))) × Without width k key (now (t .entry)) r (rows-in width (now (t .entry))) ⌝ }
+    ensures { λ r. ⌜ Past width k key (now (t .entry)) from r ⌝ }
 {
     let mut i = fours_back(t, width, k, key, from);
     while from < i {

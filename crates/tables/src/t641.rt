@@ -3,10 +3,11 @@ ghost use mathlib.Core.Path.{_≡_};
 ghost use Prim.Native.Nat.{_/_};
 ghost use lib.ListN.{length};
 ghost use Rattle.guideline.specs.Bytes.{cell, row641, width641};
-ghost use Rattle.guideline.specs.Table.{some, among};
-ghost use Rattle.guideline.specs.Steps.{hpk-level, prk-level, of-gpk};
+ghost use Rattle.guideline.specs.Table.{some};
+ghost use Rattle.guideline.specs.Steps.{hpk-level, prk-level};
 ghost use Rattle.cells.specs.Tally.{tallied};
 ghost use Rattle.tables.specs.Tests.{test641, key641};
+ghost use Rattle.parts.specs.Parts.{Part};
 ghost use Rattle.cells.specs.Lents.{rows641};
 ghost use Rattle.tables.specs.Found.{found641};
 use cells::Tally;
@@ -46,9 +47,9 @@ fn prk_level(r: Row641) -> bool
     )
 }
 
-// The part of the table where a GPK stands: asked about rows of the gpk, it answers as the table does.
+// The part of the table where a GPK stands. It answers as the table does (`part641`).
 pub fn of_gpk(t: &[u8], gpk: u32) -> &[u8]
-    ensures { λ r. ⌜ among (of-gpk gpk) (rows641 (now r)) ≡ among (of-gpk gpk) (rows641 (now (t .entry))) ⌝ }
+    ensures { λ r. ⌜ Part width641 0 gpk (now (t .entry)) (now r) ⌝ }
 {
     parts::part::part(t, t641::WIDTH, t641::KEY, gpk)
 }

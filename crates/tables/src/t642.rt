@@ -3,10 +3,11 @@ ghost use mathlib.Core.Path.{_≡_};
 ghost use Prim.Native.Nat.{_/_};
 ghost use lib.ListN.{length};
 ghost use Rattle.guideline.specs.Bytes.{cell, row642, width642};
-ghost use Rattle.guideline.specs.Table.{some, among};
-ghost use Rattle.guideline.specs.Steps.{of-reason, of-basis};
+ghost use Rattle.guideline.specs.Table.{some};
+ghost use Rattle.guideline.specs.Steps.{of-reason};
 ghost use Rattle.cells.specs.Tally.{tallied};
 ghost use Rattle.tables.specs.Tests.{test642, key642};
+ghost use Rattle.parts.specs.Parts.{Part};
 ghost use Rattle.cells.specs.Lents.{rows642};
 ghost use Rattle.tables.specs.Found.{found642};
 use cells::Tally;
@@ -34,9 +35,9 @@ fn of_reason(r: Row642, s: Setting) -> bool
     guideline::both(r.icpcnr1 == s.reason, r.icpcto == s.icpcto)
 }
 
-// The part of the table where a basis stands: asked about rows of the basis, it answers as the table does.
+// The part of the table where a basis stands. It answers as the table does (`part642`).
 pub fn of_basis(t: &[u8], basis: u32) -> &[u8]
-    ensures { λ r. ⌜ among (of-basis basis) (rows642 (now r)) ≡ among (of-basis basis) (rows642 (now (t .entry))) ⌝ }
+    ensures { λ r. ⌜ Part width642 0 basis (now (t .entry)) (now r) ⌝ }
 {
     parts::part::part(t, t642::WIDTH, t642::KEY, basis)
 }

@@ -1,10 +1,11 @@
 // Table 730: the rows of a unit.
 ghost use mathlib.Core.Path.{_≡_};
-ghost use Prim.Native.Nat.{ℕ, _/_};
+ghost use Prim.Native.Nat.{_/_};
 ghost use lib.ListN.{length};
 ghost use Rattle.guideline.specs.Bytes.{cell, row730, width730};
 ghost use Rattle.guideline.specs.Steps.{unit-row};
 ghost use Rattle.cells.specs.Tally.{tallied};
+ghost use Rattle.parts.specs.Parts.{Part};
 ghost use Rattle.cells.specs.Lents.{rows730};
 ghost use Rattle.tables.specs.Found.{found730};
 use cells::Tally;
@@ -18,9 +19,9 @@ pub enum Found730 {
     Many(usize),
 }
 
-// The part of the table where a code stands: asked about rows of the code, it answers as the table does.
+// The part of the table where a code stands. It answers as the table does (`part730`).
 pub fn of_code(t: &[u8], code: u32) -> &[u8]
-    ensures { λ r. ⌜ ((srtcde unit : ℕ) → rows730 (now r) (unit-row srtcde code unit) ≡ rows730 (now (t .entry)) (unit-row srtcde code unit)) ⌝ }
+    ensures { λ r. ⌜ Part width730 1 code (now (t .entry)) (now r) ⌝ }
 {
     parts::part::part(t, t730::WIDTH, t730::KEY, code)
 }
