@@ -21,8 +21,8 @@ use Rattle.guideline.specs.Table.{Table, Hits, None, One, Many, some, number, a
 use Rattle.guideline.specs.Steps.{Prescription, when, refuse, demand, ask, choose, one, narrow, few, by-age, same-count, same-unit, twin-unit, exact, twin, no-frequency, by-frequency, by-measure, by-weight, by-surface, one-row, of-rows}
 use Rattle.guideline.specs.Check.{prescription}
 use Rattle.dose_row.specs.declared.remembered.Remembered.{Remembered}
-use Rattle.dose_row.specs.declared.filter.Filter.the-variants.{Exact, Twin, UnitOrTwin, Count}
-use Rattle.dose_row.specs.Filters.{filter643, frequency-of, exact-filter, twin-filter, unit-filter, count-filter}
+use Rattle.filter.specs.declared.Filter.the-variants.{Exact, Twin, UnitOrTwin, Count}
+use Rattle.filter.specs.Filters.{filter643, frequency-of, exact-filter, twin-filter, unit-filter, count-filter}
 use Rattle.dose_row.specs.Remembered.{remembered, Thinned, places, row-at, none-left, one-left, number-left}
 
 abbrev Data : Type 0

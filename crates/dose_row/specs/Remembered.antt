@@ -16,14 +16,14 @@ use Rattle.guideline.specs.Steps.{of-category, age-fits}
 use Rattle.cells.specs.Lents.{rows, rows643}
 use Rattle.guideline.proofs.Shuffle.{length-listed}
 use Rattle.dose_row.specs.Places.{Below, below-keep, below-listed, below-places, below-place, held, Keeping, keeping-length, Missed, some-at, some-places, keep-map, keep-keep, listed-map, length-map, number-hits, room}
-use Rattle.dose_row.specs.declared.filter.Frequency.{Frequency}
-use Rattle.dose_row.specs.declared.filter.Filter.the-variants.{Exact, Twin}
+use Rattle.filter.specs.declared.Frequency.{Frequency}
+use Rattle.filter.specs.declared.Filter.the-variants.{Exact, Twin}
 use Rattle.dose_row.specs.declared.remembered.Remembered.{Remembered}
 use Rattle.dose_row.specs.declared.remembered.Place.{Place}
 use Rattle.dose_row.specs.declared.remembered.Place.the-variants.{Exact as AtExact, Twin as AtTwin, Nowhere}
 use Rattle.dose_row.specs.declared.remembered.Step.{Step}
 use Rattle.dose_row.specs.declared.remembered.Step.the-variants.{Kept, Refused as Turned}
-use Rattle.dose_row.specs.Filters.{filter643}
+use Rattle.filter.specs.Filters.{filter643}
 
 abbrev pub row-at : List ℕ → ℕ → Row643
 row-at l i = row643 (cell width643 l i)

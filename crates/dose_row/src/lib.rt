@@ -9,11 +9,11 @@ ghost use Rattle.cells.specs.Lents.{rows643};
 ghost use Rattle.tables.specs.Tests.{test643};
 ghost use Rattle.dose_row.specs.Chosen.{chosen643, ended, handed-on, refusal643};
 ghost use Rattle.dose_row.specs.Remembered.{remembered, Valid, Stepped};
-use crate::filter::Filter;
 use crate::remembered::Filtered;
 use crate::remembered::Place;
 use crate::remembered::Remembered;
 use crate::remembered::Step;
+use filter::Filter;
 use guideline::Datum;
 use guideline::Entry;
 use guideline::Question;
@@ -22,7 +22,6 @@ use guideline::Refusal;
 use guideline::Row643;
 use tables::t643;
 
-mod filter;
 mod remembered;
 
 pub enum Chosen643 {

@@ -5,8 +5,8 @@ use native.Mathlib.Omega.{arith}
 use denote.Ref.{now}
 use Rattle.guideline.specs.Ask.{Chosen}
 use Rattle.guideline.specs.Check.{datum}
-use Rattle.dose_row.specs.declared.filter.Filter.the-variants.{Exact, Twin}
-use Rattle.dose_row.specs.Filters.{filter643}
+use Rattle.filter.specs.declared.Filter.the-variants.{Exact, Twin}
+use Rattle.filter.specs.Filters.{filter643}
 use Rattle.dose_row.specs.Remembered.{remembered, some-found, some-missed}
 use Rattle.dose_row.specs.Narrowed.{frequency-exact, frequency-twin, frequency-none}
 use Rattle.dose_row.proofs.by_frequency.Statement.{statement}

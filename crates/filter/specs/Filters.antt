@@ -9,9 +9,9 @@ use Rattle.guideline.specs.Values.{switched, twins, encloses, matters}
 use Rattle.guideline.specs.Rows.{weight-bounds, surface-bounds}
 use Rattle.guideline.specs.Steps.{same-count, same-unit, twin-unit, exact, twin}
 use Rattle.guideline.specs.Check.{prescription}
-use Rattle.dose_row.specs.declared.filter.Frequency.{Frequency}
-use Rattle.dose_row.specs.declared.filter.Filter.{Filter}
-use Rattle.dose_row.specs.declared.filter.Filter.the-variants.{Exact, Twin, UnitOrTwin, Count, WeightMatters, Weight, SurfaceMatters, Surface}
+use Rattle.filter.specs.declared.Frequency.{Frequency}
+use Rattle.filter.specs.declared.Filter.{Filter}
+use Rattle.filter.specs.declared.Filter.the-variants.{Exact, Twin, UnitOrTwin, Count, WeightMatters, Weight, SurfaceMatters, Surface}
 
 abbrev pub frequency-of : Entry → Frequency
 frequency-of e = record { count = e .count; time = e .time; months = switched (e .months) true }

@@ -2,7 +2,7 @@
 ghost use mathlib.Core.Path.{_≡_};
 ghost use Prim.Native.Nat.{_*_};
 ghost use Rattle.guideline.specs.Values.{encloses};
-ghost use Rattle.dose_row.specs.Filters.{filter643, frequency-of, unit643, twin643};
+ghost use Rattle.filter.specs.Filters.{filter643, frequency-of, unit643, twin643};
 use cells::t643;
 use guideline::Bounds;
 use guideline::Entry;
