@@ -1,7 +1,7 @@
 -- The steps that filter, told by the set that they leave.
 use Prim.Native.Nat.{ℕ, _≤_, _<_}
 use mathlib.Core.Path.{_≡_, refl, sym, _∙_, ap, fun-ext}
-use mathlib.Core.Bool.{Bool, true, false, _&&_, _||_, and-true}
+use mathlib.Core.Bool.{Bool, true, false, and-true}
 use mathlib.Core.List.{List}
 use borrow.Author.Tests.{le-leb, lt-leb}
 use Rattle.guideline.specs.declared.Datum.{Datum}
@@ -15,10 +15,10 @@ use Rattle.guideline.specs.declared.Bounds.{Bounds}
 use Rattle.guideline.specs.declared.Entry.{Entry}
 use Rattle.guideline.specs.declared.Row643.{Row643}
 use Rattle.guideline.specs.Values.{encloses, matters}
-use Rattle.guideline.specs.Ask.{Outcome, Chosen, Refused, Done, Stop, run, after, _>>=_, _>>_}
+use Rattle.guideline.specs.Ask.{Chosen, Refused, Done, run, after, _>>=_, _>>_}
 use Rattle.guideline.proofs.Run.{run-bind, run-then}
 use Rattle.guideline.specs.Table.{Table, Hits, None, One, Many, some, number, among, every}
-use Rattle.guideline.specs.Steps.{Prescription, when, refuse, demand, ask, choose, one, narrow, few, by-age, same-count, same-unit, twin-unit, exact, twin, no-frequency, by-frequency, by-measure, by-weight, by-surface, one-row, of-rows}
+use Rattle.guideline.specs.Steps.{Prescription, when, refuse, demand, ask, choose, one, narrow, few, by-age, no-frequency, by-frequency, by-measure, by-weight, by-surface, one-row, of-rows}
 use Rattle.guideline.specs.Check.{prescription}
 use Rattle.dose_row.specs.declared.remembered.Remembered.{Remembered}
 use Rattle.filter.specs.declared.Filter.the-variants.{Exact, Twin, UnitOrTwin, Count}

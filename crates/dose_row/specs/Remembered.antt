@@ -1,21 +1,20 @@
 -- "Rows that survive a filter are remembered by position in one fixed set of 512": what a set stands for, and what its methods do to it.
-use Prim.Native.Nat.{ℕ, zero, suc, _+_, _/_, _≤_, _<_}
-use mathlib.Core.Path.{_≡_, refl, sym, _∙_, ap, ap₂, fun-ext}
-use mathlib.Core.Bool.{Bool, true, false, not, _&&_, and-true, and-assoc}
+use Prim.Native.Nat.{ℕ, _≤_, _<_}
+use mathlib.Core.Path.{_≡_, refl, sym, _∙_, ap, fun-ext}
+use mathlib.Core.Bool.{Bool, true, false, _&&_, and-true, and-assoc}
 use mathlib.Core.List.{List, [], _∷_, map}
 use native.Mathlib.Omega.{arith}
 use borrow.Author.Tests.{ne-eqb}
-use lib.Dec.{eqb}
 use lib.ListN.{length, getD}
-use Rattle.guideline.specs.declared.Refusal.{Refusal}
 use Rattle.guideline.specs.declared.Row643.{Row643}
 use Rattle.guideline.specs.Ask.{Outcome, Chosen, Refused}
-use Rattle.guideline.specs.Table.{Table, Hits, None, One, Many, keep, hits, table, some, number, among, every}
+use Rattle.guideline.specs.Table.{Table, None, One, keep, hits, table, some, number, among, every}
 use Rattle.guideline.specs.Bytes.{cell, listed, row643, width643, rows-of}
 use Rattle.guideline.specs.Steps.{of-category, age-fits}
 use Rattle.cells.specs.Lents.{rows, rows643}
+use Rattle.parts.specs.Parts.{rows-in as rows-of-width}
 use Rattle.guideline.proofs.Shuffle.{length-listed}
-use Rattle.dose_row.specs.Places.{Below, below-keep, below-listed, below-places, below-place, held, Keeping, keeping-length, Missed, some-at, some-places, keep-map, keep-keep, listed-map, length-map, number-hits, room}
+use Rattle.dose_row.specs.Places.{below-keep, below-listed, below-places, below-place, held, Keeping, keeping-length, Missed, some-at, some-places, keep-map, keep-keep, listed-map, length-map, number-hits, room}
 use Rattle.filter.specs.declared.Frequency.{Frequency}
 use Rattle.filter.specs.declared.Filter.the-variants.{Exact, Twin}
 use Rattle.dose_row.specs.declared.remembered.Remembered.{Remembered}
@@ -29,7 +28,7 @@ abbrev pub row-at : List ℕ → ℕ → Row643
 row-at l i = row643 (cell width643 l i)
 
 abbrev pub rows-in : List ℕ → ℕ
-rows-in l = length l / 40
+rows-in l = rows-of-width width643 l
 
 abbrev pub places : Remembered → ℕ → ℕ
 places s j = getD (s .at) j 0

@@ -1,6 +1,5 @@
 // The rows of a category that survive a filter, remembered by position in one fixed set of 512. The set goes through the filters by value.
 ghost use mathlib.Core.Path.{_≡_};
-ghost use mathlib.Core.Bool.{_&&_};
 ghost use Prim.Native.Nat.{_≤_, _<_};
 ghost use Rattle.guideline.specs.Table.{some, number, among};
 ghost use Rattle.guideline.specs.Steps.{of-category, age-fits};
@@ -9,7 +8,7 @@ ghost use Rattle.tables.specs.Tests.{test643};
 ghost use Rattle.filter.specs.Filters.{filter643};
 ghost use Rattle.filter.specs.declared.Filter.the-variants.{Exact, Twin, Weight, Surface};
 ghost use Rattle.dose_row.specs.Places.{Missed};
-ghost use Rattle.dose_row.specs.Remembered.{remembered, Valid, Thinned, Matched, at-place, places, aged, row-at};
+ghost use Rattle.dose_row.specs.Remembered.{remembered, Valid, Thinned, Matched, at-place, places, aged};
 use cells::t643;
 use filter::Filter;
 use filter::Frequency;

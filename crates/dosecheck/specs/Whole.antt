@@ -1,7 +1,7 @@
 -- The whole check: what the steps answer, and where its chain ends.
 use Prim.Native.Nat.{ℕ}
 use mathlib.Core.Path.{_≡_, refl, sym, _∙_, ap}
-use mathlib.Core.Bool.{Bool, true, false, cond}
+use mathlib.Core.Bool.{true, false}
 use mathlib.Core.List.{[]}
 use native.Mathlib.Omega.{arith}
 use Rattle.guideline.specs.declared.Datum.{Datum}
@@ -14,13 +14,13 @@ use Rattle.guideline.specs.declared.Reason.the-variants.{EntryOutOfRange, Limit
 use Rattle.guideline.specs.declared.Refusal.{Refusal}
 use Rattle.guideline.specs.declared.Refusal.the-variants.{Ends}
 use Rattle.guideline.specs.declared.Row649.{Row649}
-use Rattle.guideline.specs.Ask.{Plan, Done, Stop, at, Outcome, Chosen, Refused, run, after, where-reached, _>>=_, _>>_}
+use Rattle.guideline.specs.Ask.{Plan, Done, at, Outcome, Chosen, Refused, run, after, _>>=_, _>>_}
 use Rattle.guideline.specs.Table.{Table, Hits, None, One, Many}
 use Rattle.guideline.specs.Rows.{Tables, sound649}
 use Rattle.guideline.specs.Bytes.{Lents, spelled, lent, rows-of, row649, width649}
-use Rattle.guideline.specs.Steps.{Prescription, refuse, one, choose, all-rows, sound, ratio, rule-row, limits-of, nothing, Selected, selection, comparison, Verdict, over-sound, plan}
+use Rattle.guideline.specs.Steps.{Prescription, refuse, one, choose, sound, ratio, rule-row, limits-of, nothing, Selected, selection, comparison, over-sound, plan}
 use Rattle.guideline.specs.Check.{datum, prescription, in-range, outcome, answer, refused, compared, check}
-use Rattle.guideline.proofs.Run.{run-bind, run-then, run-at}
+use Rattle.guideline.proofs.Run.{run-bind}
 use Rattle.guideline.proofs.Holds.{Holds, holds-done, holds-stop, holds-all, holds-bind, run-holds, Any, Comes}
 use Rattle.guideline.proofs.Gives.{Gives, gives-table}
 use Rattle.units.specs.declared.Converted.{Converted}
@@ -29,8 +29,7 @@ use Rattle.units.specs.Converting.{converted}
 use Rattle.selection.specs.declared.Rule.{Rule}
 use Rattle.selection.specs.declared.Selection.{Selection}
 use Rattle.selection.specs.declared.Selection.the-variants.{Chosen as TheRule, Refused as NoRule}
-use Rattle.selection.specs.Selecting.{rule-of, selected, step-refused, step-chosen}
-use Rattle.ranges.specs.declared.sound.Soundness.{Soundness}
+use Rattle.selection.specs.Selecting.{selected, step-refused, step-chosen}
 use Rattle.ranges.specs.declared.sound.Soundness.the-variants.{Sound, Refused as Unsound}
 use Rattle.ranges.specs.Soundly.{soundness, outcome-of, sound-run, sound-649}
 

@@ -1,6 +1,6 @@
 -- 125 in the parts that the code tests.
 use Prim.Native.Nat.{ℕ}
-use mathlib.Core.Path.{_≡_, refl, sym, _∙_, ap, ap₂}
+use mathlib.Core.Path.{_≡_, refl, ap₂}
 use mathlib.Core.Bool.{Bool, true, false, _&&_, and-assoc}
 use lib.Dec.{leb}
 use Rattle.guideline.specs.declared.Datum.{Datum}

@@ -1,7 +1,6 @@
 // Step 1, 125: the ranges of the entry.
 ghost use mathlib.Core.Path.{_≡_};
-ghost use mathlib.Core.Bool.{_&&_};
-ghost use Rattle.guideline.specs.Check.{prescription, icpcto-in-range, switch-in-range, in-range};
+ghost use Rattle.guideline.specs.Check.{icpcto-in-range, switch-in-range, in-range};
 ghost use Rattle.entry.specs.Entries.{within-if-given, product-part, dose-part, six-data};
 use guideline::Datum;
 use guideline::Entry;

@@ -1,5 +1,4 @@
 -- What the filters of steps 8 to 10 ask of a row of table 643.
-use Prim.Native.Nat.{ℕ}
 use mathlib.Core.Path.{_≡_, refl}
 use mathlib.Core.Bool.{Bool, true, _&&_, _||_}
 use lib.Dec.{eqb}

@@ -10,8 +10,8 @@ use Rattle.guideline.specs.declared.Reason.the-variants.{NoSetting, SettingSeve
 use Rattle.guideline.specs.declared.Datum.{Datum}
 use Rattle.guideline.specs.declared.Question.{Question}
 use Rattle.guideline.specs.Ask.{run}
-use Rattle.guideline.specs.Values.{intensive-care, all-care, no-reason, whole-reason, Q-general, no-route, setting-entered, in-all-care, for-whole-reason, for-Q-general, by-no-route}
-use Rattle.guideline.specs.Table.{Table, Hits, None, One, Many, some, any, among, prefer, every}
+use Rattle.guideline.specs.Values.{intensive-care, no-reason, no-route, setting-entered, in-all-care, for-whole-reason, for-Q-general, by-no-route}
+use Rattle.guideline.specs.Table.{Table, Hits, None, One, Many, some, among, every}
 use Rattle.guideline.specs.Steps.{one, choose, refuse, of-basis, of-care, of-reason, of-route, keep-care, keep-reason, keep-route, setting}
 use Rattle.guideline.specs.Check.{prescription}
 use Rattle.tables.specs.Found.{found642}

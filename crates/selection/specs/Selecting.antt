@@ -1,6 +1,6 @@
 -- Steps 3 to 11, one after the other: what the selection answers, and where its chain ends.
 use Prim.Native.Nat.{ℕ}
-use mathlib.Core.Path.{_≡_, refl, sym, _∙_, ap, fun-ext}
+use mathlib.Core.Path.{_≡_, _∙_, ap}
 use Rattle.guideline.specs.declared.Datum.{Datum}
 use Rattle.guideline.specs.declared.Question.{Question}
 use Rattle.guideline.specs.declared.Refusal.{Refusal}

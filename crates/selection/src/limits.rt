@@ -1,7 +1,7 @@
 // Step 11, the limits. "One row: its GPDDNR in 649, none 124, several 123."
 ghost use mathlib.Core.Path.{_≡_};
 ghost use Rattle.guideline.specs.Ask.{run};
-ghost use Rattle.guideline.specs.Check.{datum, prescription};
+ghost use Rattle.guideline.specs.Check.{datum};
 ghost use Rattle.guideline.specs.Steps.{limits-of};
 ghost use Rattle.cells.specs.Lents.{rows649};
 ghost use Rattle.selection.specs.Chosen.{chosen649};

@@ -1,12 +1,11 @@
 -- The part of a table where a key stands answers as the table does, for each of the six tables.
-use Prim.Native.Nat.{ℕ, _<_}
-use mathlib.Core.Path.{_≡_, refl, fun-ext}
-use mathlib.Core.Bool.{Bool, true, false, _&&_}
+use Prim.Native.Nat.{ℕ}
+use mathlib.Core.Path.{_≡_, fun-ext}
+use mathlib.Core.Bool.{_&&_}
 use mathlib.Core.List.{List}
 use native.Mathlib.Omega.{arith}
 use borrow.Author.Tests.{ne-eqb}
-use lib.Dec.{eqb}
-use Rattle.guideline.specs.Table.{Table, among}
+use Rattle.guideline.specs.Table.{among}
 use Rattle.guideline.specs.Bytes.{row640, width640, row641, width641, row642, width642, row643, width643, row649, width649, row730, width730}
 use Rattle.guideline.specs.Steps.{gpk-row, of-gpk, of-basis, of-category, rule-row, unit-row}
 use Rattle.tables.specs.Tests.{other-code}

@@ -8,7 +8,7 @@ use lib.ListN.{length, take, drop, length-append, length-drop, drop-of-length-le
 use lib.Seq.{sets, length-take-le, take-all, drop-drop}
 use Rattle.unit_line.specs.Put.{Put}
 use Rattle.unit_lines.specs.Records.{lineOf}
-use Rattle.unit_lines.specs.Machine.{lastOf, butLast, endIn, longestLine, Run, stopped, after, run, shrunk, keep, textOf}
+use Rattle.unit_lines.specs.Machine.{lastOf, butLast, endIn, longestLine, Run, stopped, after, shrunk, keep, textOf}
 use Rattle.unit_lines.specs.Feeding.{feeding, Feeds, Moves}
 use Rattle.unit_lines.specs.declared.text.ListMachine.{ListMachine}
 use Rattle.unit_lines.specs.declared.machine.Fed.{Fed}

@@ -12,7 +12,6 @@ use Rattle.unit_lines.specs.Records.{lineOf}
 use Rattle.unit_lines.specs.Machine.{butLast, endIn, longestLine, Run, stopped, after, run}
 use Rattle.unit_lines.specs.Feeding.{Moves}
 use Rattle.unit_lines.proofs.Run.{run-full, run-none, run-end}
-use Rattle.unit_lines.proofs.Longest.{longest}
 
 -- r does from here on what whole does from the start
 pub record Rest (whole r : Run) (from : ℕ) (old : List ℕ) (at : ℕ) (out : List ℕ) (next end : ℕ) : Type 0 where

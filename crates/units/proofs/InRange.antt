@@ -19,7 +19,6 @@ use Rattle.guideline.specs.Steps.{Prescription, unit-row, one-to-one, ratio}
 use Rattle.tables.specs.Found.{found730}
 use Rattle.units.specs.declared.Taken.{Taken}
 use Rattle.units.specs.declared.Taken.the-variants.{Row, Refused as NotTaken}
-use Rattle.units.specs.declared.Converted.{Converted}
 use Rattle.units.specs.declared.Converted.the-variants.{Ratio as Exact, Refused as NotConverted}
 use Rattle.units.specs.Converting.{converted, taken, of-amounts}
 use Rattle.units.specs.Comparing.{Amounts, most-converted}

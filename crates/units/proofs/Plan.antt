@@ -1,5 +1,4 @@
 -- What the plan of step 2 comes to: the two look-ups in the paper's order, and then the two amounts. Assumes nothing.
-use Prim.Native.Nat.{ℕ}
 use mathlib.Core.Path.{_≡_, refl}
 use mathlib.Core.Bool.{Bool, true, false, cond, not, _||_}
 use lib.Dec.{eqb}
@@ -7,7 +6,6 @@ use Rattle.guideline.specs.declared.Row730.{Row730}
 use Rattle.guideline.specs.declared.Ratio.{Ratio}
 use Rattle.guideline.specs.declared.Datum.{Datum}
 use Rattle.guideline.specs.declared.Question.{Question}
-use Rattle.guideline.specs.declared.Reason.{Reason}
 use Rattle.guideline.specs.declared.Reason.the-variants.{BaseUnitAbsent, BaseUnitSeveral, EnteredUnitAbsent, EnteredUnitSeveral, AmountZero, AmountLarge}
 use Rattle.guideline.specs.declared.Refusal.the-variants.{Ends}
 use Rattle.guideline.specs.Ask.{Step, Done, Chosen, run, _>>=_, _>>_}
