@@ -1,0 +1,73 @@
+// One prescription to be checked.
+ghost use mathlib.Core.Path.{_≡_};
+ghost use Rattle.guideline.specs.Values.{switched};
+
+// The six data that an entry may leave blank.
+pub enum Datum {
+    Age,
+    Sex,
+    Hpk,
+    Prk,
+    Weight,
+    Surface,
+}
+
+// What an entry says of such a datum.
+pub enum Value {
+    Blank,
+    Given(u32),
+}
+
+// A setting of the host that may be not given. Which numbers it may hold is tested by the check (125).
+pub enum Switch {
+    NotGiven,
+    Position(u32),
+}
+
+impl Switch {
+    pub const OFF: u32 = 0;
+
+    pub const ON: u32 = 1;
+
+    pub fn on(self, unless_given: bool) -> bool
+        ensures { λ r. ⌜ r ≡ switched self «unless_given» ⌝ }
+    {
+        match self {
+            Switch::NotGiven => unless_given,
+            Switch::Position(position) => position == Switch::ON,
+        }
+    }
+}
+
+// One prescription to be checked: the data that may be blank, and the rest. specs/Entries.antt has document 01's order of its numbers.
+pub struct Entry {
+    pub known: Data,
+    pub rest: Prescription,
+}
+
+pub struct Data {
+    pub age: Value,
+    pub sex: Value,
+    pub hpk: Value,
+    pub prk: Value,
+    pub weight: Value,
+    pub surface: Value,
+}
+
+// The part of an entry that is never blank.
+pub struct Prescription {
+    pub gpk: u32,
+    pub care: u32,
+    pub reason: u32,
+    pub icpcto: u32,
+    pub route: u32,
+    pub count: u32,
+    pub time: u32,
+    pub lowest: u32,
+    pub highest: u32,
+    pub entered: u32,
+    pub base: u32,
+    pub srtcde: u32,
+    pub code: u32,
+    pub months: Switch,
+}

@@ -1,0 +1,83 @@
+// The tables by their numbers, and their rows: fields in document 01's order and under its names.
+
+// The tables by their numbers.
+pub enum TableName {
+    T640,
+    T641,
+    T642,
+    T643,
+    T649,
+    T730,
+}
+
+// The rows of the six tables, fields in document 01's order and under its names.
+pub struct Row640 {
+    pub gpkode: u32,
+    pub gpdgst: u32,
+    pub gprisc: u32,
+}
+
+pub struct Row641 {
+    pub gpkode: u32,
+    pub prkode: u32,
+    pub hpkode: u32,
+    pub gpdcod: u32,
+    pub gpdbas: u32,
+}
+
+pub struct Row642 {
+    pub gpdbas: u32,
+    pub gpdzco: u32,
+    pub icpcnr1: u32,
+    pub icpcto: u32,
+    pub gpktwg: u32,
+    pub gpdcat: u32,
+}
+
+pub struct Row643 {
+    pub gpdcat: u32,
+    pub gpdlfm: u32,
+    pub gpdlfx: u32,
+    pub gpdfaa: u32,
+    pub gpdfee: u32,
+    pub gpdkgm: u32,
+    pub gpdkgx: u32,
+    pub surfacelow: u32,
+    pub surfacehigh: u32,
+    pub gpddnr: u32,
+}
+
+pub struct Row649 {
+    pub gpddnr: u32,
+    pub normminimum: u32,
+    pub normmaximum: u32,
+    pub absolutemaximum: u32,
+}
+
+pub struct Row730 {
+    pub srtcde: u32,
+    pub code: u32,
+    pub cdhoev: u64,
+    pub cdeenh: u32,
+}
+
+impl Row640 {
+    // GPDGST, and the sex of an entry.
+    pub const MAN: u32 = 1;
+
+    pub const WOMAN: u32 = 2;
+
+    pub const BOTH: u32 = 3;
+
+    // GPRISC.
+    pub const EMPTY: u32 = 0;
+
+    pub const NARROW: u32 = 1;
+}
+
+impl Row641 {
+    // GPDCOD.
+    pub const BASE_LEVEL: u32 = 1;
+
+    pub const PRODUCT_LEVEL: u32 = 2;
+}
