@@ -20,13 +20,13 @@ impl Bounds {
         both(self.low <= self.high, self.high <= Bounds::NO_BOUND)
     }
 
-    // Both ends counted.
-    pub fn enclose(self, x: u32) -> bool
+    // Both ends counted. Months in thousandths take more than 32 bits.
+    pub fn enclose(self, x: u64) -> bool
         ensures { λ r. ⌜ r ≡ encloses self x ⌝ }
     {
         both(
-            self.low <= x,
-            either(self.high == Bounds::NO_BOUND, x <= self.high),
+            self.low as u64 <= x,
+            either(self.high == Bounds::NO_BOUND, x <= self.high as u64),
         )
     }
 

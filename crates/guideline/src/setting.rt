@@ -1,6 +1,6 @@
 // The setting: what the rows of table 642 are told apart by, and what step 6 falls back to.
 ghost use mathlib.Core.Path.{_≡_};
-ghost use Rattle.guideline.specs.Values.{setting-entered, in-all-care, for-whole-reason, for-Q-general, by-no-route};
+ghost use Rattle.guideline.specs.Values.{all-care, whole-reason, Q-general, no-route, setting-entered};
 use crate::entry::Prescription;
 
 // What the rows of table 642 are told apart by.
@@ -39,7 +39,7 @@ impl Setting {
     }
 
     pub fn all_care(self) -> Setting
-        ensures { λ r. ⌜ r ≡ in-all-care self ⌝ }
+        ensures { λ r. ⌜ r ≡ record { care = all-care; reason = self .reason; icpcto = self .icpcto; route = self .route } ⌝ }
     {
         Setting {
             care: Setting::ALL_CARE,
@@ -50,7 +50,7 @@ impl Setting {
     }
 
     pub fn whole_reason(self) -> Setting
-        ensures { λ r. ⌜ r ≡ for-whole-reason self ⌝ }
+        ensures { λ r. ⌜ r ≡ record { care = self .care; reason = self .reason; icpcto = whole-reason; route = self .route } ⌝ }
     {
         Setting {
             care: self.care,
@@ -61,7 +61,7 @@ impl Setting {
     }
 
     pub fn q_general(self) -> Setting
-        ensures { λ r. ⌜ r ≡ for-Q-general self ⌝ }
+        ensures { λ r. ⌜ r ≡ record { care = self .care; reason = Q-general; icpcto = whole-reason; route = self .route } ⌝ }
     {
         Setting {
             care: self.care,
@@ -72,7 +72,7 @@ impl Setting {
     }
 
     pub fn no_route(self) -> Setting
-        ensures { λ r. ⌜ r ≡ by-no-route self ⌝ }
+        ensures { λ r. ⌜ r ≡ record { care = self .care; reason = self .reason; icpcto = self .icpcto; route = no-route } ⌝ }
     {
         Setting {
             care: self.care,
