@@ -1,6 +1,7 @@
-//! What tools/check-speed measures with.
+//! What tools/check-speed and tools/before-after measure with.
 
 mod large;
+mod processor;
 
 use second::stream::{Header, HEADER};
 use std::hint::black_box;
@@ -9,7 +10,9 @@ use std::process::ExitCode;
 use std::time::Instant;
 
 const HELP: &str = "measure case sorted|spread ENTRIES   the large case on standard output
-measure read TIMES                   nanoseconds of one reading of the tables of the case on standard input";
+measure read TIMES                   nanoseconds of one reading of the tables of the case on standard input
+measure processor INPUT OUTPUT PROGRAM
+                                     microseconds of the processor for a run of the program";
 
 fn main() -> ExitCode {
     let words: Vec<String> = std::env::args().skip(1).collect();
@@ -19,6 +22,13 @@ fn main() -> ExitCode {
         ["case", "sorted", entries] => put(&large::sorted(number(entries)).bytes()),
         ["case", "spread", entries] => put(&large::spread(number(entries)).bytes()),
         ["read", times] => put(format!("{}\n", read(number(times))).as_bytes()),
+        ["processor", input, output, program] => match processor::microseconds(input, output, program) {
+            Ok(took) => put(format!("{took}\n").as_bytes()),
+            Err(error) => {
+                eprintln!("measure: {error}");
+                ExitCode::FAILURE
+            }
+        },
         _ => {
             eprintln!("{HELP}");
             ExitCode::FAILURE

@@ -4,8 +4,11 @@
 #[derive(Clone, Copy, PartialEq, Eq, Debug)]
 pub enum Part {
     Check,
+    /// told by the unit list, and by the calls too
+    Reader,
     List,
     Writer,
+    Calls,
 }
 
 macro_rules! faults {
@@ -268,7 +271,7 @@ faults! {
         LowTextFirst "text: low's text if both speak",
         Text16WithoutNorm "text: 16 without a norm maximum",
     }
-    List {
+    Reader {
         LongerPasses "201: a longer record passes",
         ShortSpacesPass "201: a record of 63 characters passes",
         FileAny "202: 0730 not tested",
@@ -280,6 +283,7 @@ faults! {
         SpaceIsZero "203: a space passes as a digit",
         ColonIsDigit "203: the character after 9 passes as a digit",
         SlashIsDigit "203: the character before 0 passes as a digit",
+        HighBitIgnored "203: a character that is a digit but for its high bit passes",
         LastDigitAny "203: the last digit of CDEENH not tested",
         MutationLetterIsAbove "203: a mutation character that is no digit is 204",
         MutationBeforeDigits "204 before 203",
@@ -288,6 +292,8 @@ faults! {
         MutationAny "204: any mutation digit passes",
         CodeOneOver "reader: CODE read one place before",
         AmountIn32Bits "reader: CDHOEV cut to 32 bits",
+    }
+    List {
         LineFeedEnds "list: LF alone ends a record",
         ReturnEnds "list: CR alone ends a record",
         ReturnSwallowsNext "list: CR CR LF does not end a record",
@@ -310,12 +316,44 @@ faults! {
         WriteCdhoevAny "205: any CDHOEV passes",
         WriteCdeenhAny "205: any CDEENH passes",
         GreatestRefused "205: CDHOEV 999,999,999,999 refused",
+        WriteOneMore "205: the first number too wide passes",
+        WriteMutationFour "205: mutation digit 4 passes",
+        WriteMutationIn8Bits "205: the mutation digit in 8 bits",
         RoomBeforeWidth "206 before 205",
         WritePlaceAtEnd "206: a place at the buffer's end passes",
+        RoomOf63 "206: room for 63 characters passes",
+        PlaceWraps "206: place and 64 added in 64 bits",
         WritesPart "206: the part that has room is written",
+        ClearsRefused "205 and 206: the buffer is cleared",
         WritesAtStart "writer: writes at the buffer's start",
         WritesOneMore "writer: a 65th character",
+        WritesOneLess "writer: 63 characters",
+        SpacesUnwritten "writer: the 19 spaces not written",
+        WriteCodeOneOver "writer: CODE one place before",
         ClearsBefore "writer: the bytes before the place change",
         SpacesInFront "writer: spaces in front instead of zeros",
+    }
+    Calls {
+        AnyFileCalled "calls: any file is taken as 730",
+        WhatTwoWrites "calls: what 2 is a writing",
+        Bytes4096Broken "calls: 4,096 bytes are broken",
+        Bytes4097Pass "calls: 4,097 bytes pass",
+        CutCallAnswered "calls: a call whose bytes break off is answered",
+        BrokenUnsaid "calls: a damaged stream ends without a word",
+        BrokenGoesOn "calls: the stream is read on behind the damage",
+        BrokenForgets "calls: the lines before the damage are dropped",
+        PlaceIn32Bits "calls: the place cut to 32 bits",
+        CalledCdhoevIn32Bits "calls: CDHOEV cut to 32 bits",
+        CalledCodesExchanged "calls: SRTCDE and CODE exchanged",
+        RefusalBehindZero "calls: a refusal behind a 0",
+        MutationUnprinted "calls: the mutation digit not printed",
+        MutationPrintedLast "calls: the mutation digit behind the file's numbers",
+        CalledZerosInFront "calls: zeros in front",
+        NoSpaceBeforeNothing "calls: no space before an empty buffer",
+        RefusedUnprinted "calls: the buffer not printed after a refusal",
+        WrittenAlonePrinted "calls: only the 64 characters printed",
+        HexadecimalUppercase "calls: uppercase hexadecimal",
+        HexadecimalWithoutZero "calls: one hexadecimal digit for a byte below 16",
+        CallsEndInReturn "calls: lines end in CR LF",
     }
 }

@@ -4,7 +4,7 @@ use second::check::entry::*;
 use second::check::{check, Entry, Lent, Table};
 use second::generate::case::{Case, Numbers};
 use second::generate::proof_table::{changed, k1, k_case, tables, K};
-use second::record::{list::unit_list, read::read, write::write, Unit};
+use second::record::{calls::calls, list::unit_list, read::read, write::write, Unit};
 use second::stream::answers;
 use second::switch::Right;
 
@@ -235,6 +235,36 @@ fn writing_refuses_and_writes_nothing() {
     assert_eq!(write(Right, &good, &mut buffer, 0), Ok(()));
     assert_eq!(&buffer, b"073031850999999999999999999999999990002999999                   ");
     assert_eq!(read(Right, &buffer), Ok(good));
+}
+
+/// Numbers of 32 bits, or of 64 where `true` stands beside them.
+fn numbers(all: &[(u64, bool)]) -> Vec<u8> {
+    all.iter().flat_map(|(number, long)| number.to_le_bytes()[..if *long { 8 } else { 4 }].to_vec()).collect()
+}
+
+#[test]
+fn a_call_has_one_line() {
+    let list = |stream: &[u8]| String::from_utf8(calls(Right, stream)).expect("text");
+    let read = |text: &[u8]| [&numbers(&[(730, false), (0, false), (text.len() as u64, false)]), text].concat();
+    let write = |buffer: &[u8], place: u64, mutation: u64, cdhoev: u64| {
+        let front = [(730, false), (1, false), (buffer.len() as u64, false), (place, true), (mutation, false)];
+        let unit = [(1, false), (216_267, false), (cdhoev, true), (303, false)];
+        [numbers(&front), numbers(&unit), buffer.to_vec()].concat()
+    };
+    assert_eq!(list(b""), "");
+    assert_eq!(list(&read(EXAMPLE)), "0 0 1 216267 20000 303\n");
+    assert_eq!(list(&read(b"")), "201\n");
+    assert_eq!(list(&read(&[b'0'; 64])), "202\n");
+    let record = "303733303031383530303030303031303032313632363730303030303030323030303030303032303030333033";
+    let spaces = "20".repeat(19);
+    assert_eq!(list(&write(&[0xab; 66], 1, 0, 20_000)), format!("0 ab{record}{spaces}ab\n"));
+    assert_eq!(list(&write(&[10, 255], 0, 4, 20_000)), "205 0aff\n");
+    assert_eq!(list(&write(&[10, 255], 0, 0, 1 << 40)), "205 0aff\n");
+    assert_eq!(list(&write(&[10, 255], u64::MAX, 0, 20_000)), "206 0aff\n");
+    assert_eq!(list(&write(b"", 0, 0, 20_000)), "206 \n");
+    let two = [read(EXAMPLE), write(b"", 0, 4, 0)].concat();
+    assert_eq!(list(&two), "0 0 1 216267 20000 303\n205 \n");
+    assert_eq!(list(&two[..two.len() - 1]), "0 0 1 216267 20000 303\nbroken\n");
 }
 
 #[test]

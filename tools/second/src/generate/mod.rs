@@ -1,6 +1,7 @@
 //! The seeded generator of cases: the same seed and number give the same case.
 
 mod breakers;
+pub mod calls;
 pub mod case;
 mod directed;
 mod heavy;

@@ -1,5 +1,6 @@
-//! File 730 (document 004): reader, writer and unit list.
+//! File 730 (document 004): reader, writer, the stream of their calls, and the unit list.
 
+pub mod calls;
 pub mod list;
 pub mod read;
 pub mod write;

@@ -93,6 +93,7 @@ fn digits<S: Switch>(s: S, record: &[u8]) -> bool {
             || s.on(Fault::SpaceIsZero) && c == b' '
             || s.on(Fault::ColonIsDigit) && c == b':'
             || s.on(Fault::SlashIsDigit) && c == b'/'
+            || s.on(Fault::HighBitIgnored) && (c & 127).is_ascii_digit()
     })
 }
 

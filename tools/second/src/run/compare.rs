@@ -2,7 +2,9 @@
 
 use super::program::{self, second, Output};
 use super::show;
+use crate::generate::calls::{call_case, CallCase};
 use crate::generate::{self, case::Case, records::unit_file};
+use crate::record::calls::{calls, take, Call};
 use crate::record::list::{records, unit_list};
 use crate::run::{answers_of, answers_of_bytes};
 use crate::switch::Right;
@@ -20,13 +22,21 @@ pub struct Run<'a> {
     pub quiet: bool,
     pub answers: Option<&'a str>,
     pub units: Option<&'a str>,
+    pub calls: Option<&'a str>,
 }
 
-/// Lines that were equal: one for each entry, and one for each record of the unit files.
+/// Lines that were equal: one for each entry, one for each record of the unit files, one for each call of file 730.
 #[derive(Default)]
 pub struct Equal {
     pub entries: u64,
     pub records: u64,
+    pub calls: u64,
+}
+
+impl std::fmt::Display for Equal {
+    fn fmt(&self, f: &mut std::fmt::Formatter) -> std::fmt::Result {
+        write!(f, "{} entries, {} unit records and {} calls", self.entries, self.records, self.calls)
+    }
 }
 
 /// The lines compared, or the first difference.
@@ -40,16 +50,14 @@ pub fn run(run: &Run) -> Result<Equal, String> {
             equal.entries += answers(program, run.seed, numbers.clone())?;
         }
         if let Some(program) = run.units {
-            equal.records += units(program, run.seed, numbers)?;
+            equal.records += units(program, run.seed, numbers.clone())?;
+        }
+        if let Some(program) = run.calls {
+            equal.calls += called(program, run.seed, numbers)?;
         }
         if batch as u64 % PROGRESS == PROGRESS - 1 && !run.quiet {
             let done = end.min(first + BATCH) - run.first;
-            let Equal { entries, records } = equal;
-            eprintln!(
-                "{done} of {} cases, {entries} entries and {records} unit records equal, {:.0?}",
-                run.cases,
-                start.elapsed()
-            );
+            eprintln!("{done} of {} cases, {equal} equal, {:.0?}", run.cases, start.elapsed());
         }
     }
     Ok(equal)
@@ -141,4 +149,53 @@ pub fn unit_files(seed: u64, numbers: std::ops::Range<u64>) -> Vec<u8> {
         }
     }
     all
+}
+
+/// The calls of all cases joined to one stream, which ends in the damaged call of the last case that has one.
+fn called(program: &str, seed: u64, numbers: std::ops::Range<u64>) -> Result<u64, String> {
+    let stream = call_stream(seed, numbers.clone());
+    let expected = calls(Right, &stream);
+    let Output { bytes: out, ended } = program::output(program, &stream)?;
+    if out == expected {
+        return ended.map(|()| expected.iter().filter(|c| **c == b'\n').count() as u64);
+    }
+    let same = out.iter().zip(&expected).take_while(|(a, b)| a == b).count();
+    let line = expected[..same].iter().filter(|c| **c == b'\n').count();
+    let of = |bytes: &[u8]| String::from_utf8_lossy(bytes).lines().nth(line).unwrap_or("(no line)").to_string();
+    let (first, cases) = (numbers.start, numbers.end - numbers.start);
+    let lines = [
+        format!("{program} differs in line {} of the calls {numbers:?}, seed {seed}", line + 1),
+        format!("call:    {}", shown_call(&stream, line)),
+        format!("second:  {}", of(&expected)),
+        format!("program: {}{}", of(&out), ended.err().map_or(String::new(), |ended| format!(" ({ended})"))),
+        format!("repeat:  {} compare --calls '{program}' --seed {seed} --first {first} --cases {cases}", second()),
+        format!("stream:  {} call-streams --seed {seed} --first {first} --cases {cases}", second()),
+    ];
+    Err(lines.join("\n"))
+}
+
+/// Call `number` of the stream.
+fn shown_call(stream: &[u8], number: usize) -> String {
+    let mut rest = stream;
+    let mut call = take(Right, &mut rest);
+    for _ in 0..number {
+        call = take(Right, &mut rest);
+    }
+    match call {
+        Ok(Call::Read(text)) => format!("read \"{}\"", text.escape_ascii()),
+        Ok(Call::Write { unit, buffer, place }) => {
+            format!("write {unit:?} at {place} of {} bytes, \"{}\"", buffer.len(), buffer.escape_ascii())
+        }
+        Err(damage) => format!("damaged: {damage:?}"),
+    }
+}
+
+pub fn call_stream(seed: u64, numbers: std::ops::Range<u64>) -> Vec<u8> {
+    let mut all = vec![];
+    let mut end = None;
+    for CallCase { whole, damaged } in numbers.map(|number| call_case(seed, number)) {
+        all.extend(whole);
+        end = damaged.or(end);
+    }
+    CallCase { whole: all, damaged: end }.bytes()
 }

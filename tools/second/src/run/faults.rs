@@ -4,11 +4,12 @@ use super::answers_of_bytes;
 use super::versions::{self, Version};
 use crate::check::Answer;
 use crate::fault::{Fault, Part};
+use crate::generate::calls::call_case;
 use crate::generate::case::Case;
-use crate::generate::records::{unit_file, write_case};
+use crate::generate::records::unit_file;
 use crate::generate::{self, LONG_CASES};
-use crate::record::{list::unit_list, write::write};
-use crate::switch::{Right, Switch, Wrong};
+use crate::record::{calls::calls, list::unit_list};
+use crate::switch::{Right, Wrong};
 
 /// The first case that tells a wrong version: its number, and what both programs gave.
 pub struct Told {
@@ -31,9 +32,10 @@ impl Faults {
         self.all.iter().filter(|(_, told)| told.is_none()).map(|(version, _)| version.name()).collect()
     }
 
-    fn untold_of(&mut self, part: Part) -> impl Iterator<Item = (Version, &mut Option<Told>)> {
-        let of_part = move |(version, told): &&mut (Version, Option<Told>)| version.part() == part && told.is_none();
-        self.all.iter_mut().filter(of_part).map(|(version, told)| (*version, told))
+    fn untold_of<'p>(&'p mut self, parts: &'p [Part]) -> impl Iterator<Item = (Version, &'p mut Option<Told>)> {
+        let of_parts =
+            |(version, told): &&mut (Version, Option<Told>)| parts.contains(&version.part()) && told.is_none();
+        self.all.iter_mut().filter(of_parts).map(|(version, told)| (*version, told))
     }
 
     /// Whether the case tells a version of the check that no case before told.
@@ -41,7 +43,7 @@ impl Faults {
         let bytes = case.bytes();
         let right = answers_of_bytes(Right, case, &bytes);
         let mut news = false;
-        for (version, told) in self.untold_of(Part::Check) {
+        for (version, told) in self.untold_of(&[Part::Check]) {
             let wrong = version.answers(case, &bytes);
             let differ = |(right, wrong): &(&Answer, &Answer)| right.numbers != wrong.numbers;
             if let Some((right, wrong)) = right.iter().zip(&wrong).find(differ) {
@@ -52,27 +54,35 @@ impl Faults {
         news
     }
 
-    pub fn tell_list(&mut self, file: &[u8], number: u64) {
-        let right = unit_list(Right, file);
-        for (version, told) in self.untold_of(Part::List) {
+    /// Whether the file tells a version of the reader or of the list that nothing before told.
+    pub fn tell_list(&mut self, file: &[u8], number: u64) -> bool {
+        self.tell_lines(&[Part::Reader, Part::List], number, |version| match version {
+            None => unit_list(Right, file),
+            Some(fault) => unit_list(Wrong(fault), file),
+        })
+    }
+
+    /// Whether the stream tells a version of the writer or of the calls, and of the reader, that nothing before told.
+    pub fn tell_calls(&mut self, stream: &[u8], number: u64) -> bool {
+        self.tell_lines(&[Part::Reader, Part::Writer, Part::Calls], number, |version| match version {
+            None => calls(Right, stream),
+            Some(fault) => calls(Wrong(fault), stream),
+        })
+    }
+
+    fn tell_lines(&mut self, parts: &[Part], number: u64, lines: impl Fn(Option<Fault>) -> Vec<u8>) -> bool {
+        let right = lines(None);
+        let mut news = false;
+        for (version, told) in self.untold_of(parts) {
             let Version::Named(fault) = version else { continue };
-            let wrong = unit_list(Wrong(fault), file);
+            let wrong = lines(Some(fault));
             if wrong != right {
                 let (right, wrong) = (first_other(&right, &wrong), first_other(&wrong, &right));
                 *told = Some(Told { case: number, right, wrong });
+                news = true;
             }
         }
-    }
-
-    fn tell_writer(&mut self, seed: u64, number: u64) {
-        let right = written(Right, seed, number);
-        for (version, told) in self.untold_of(Part::Writer) {
-            let Version::Named(fault) = version else { continue };
-            let wrong = written(Wrong(fault), seed, number);
-            if wrong != right {
-                *told = Some(Told { case: number, right: shown(&right), wrong: shown(&wrong) });
-            }
-        }
+        news
     }
 
     pub fn print(&self) {
@@ -104,7 +114,7 @@ pub fn run(seed: u64, cases: u64) -> Faults {
     for number in short.chain((0..cases).filter(is_long)) {
         faults.tell_check(&generate::case(seed, number), number);
         faults.tell_list(&unit_file(seed, number), number);
-        faults.tell_writer(seed, number);
+        faults.tell_calls(&call_case(seed, number).bytes(), number);
         if faults.all.iter().all(|(_, told)| told.is_some()) {
             break;
         }
@@ -121,16 +131,4 @@ fn first_other(one: &[u8], other: &[u8]) -> String {
     let mut others = other.split(|c| *c == b'\n');
     let line = one.split(|c| *c == b'\n').find(|line| others.next() != Some(line));
     String::from_utf8_lossy(line.unwrap_or(b"(no line)")).escape_debug().to_string()
-}
-
-type Written = (Result<(), u32>, Vec<u8>);
-
-fn written<S: Switch>(s: S, seed: u64, number: u64) -> Written {
-    let case = write_case(seed, number);
-    let mut buffer = case.buffer;
-    (write(s, &case.unit, &mut buffer, case.place), buffer)
-}
-
-fn shown((result, buffer): &Written) -> String {
-    format!("{result:?} {}", String::from_utf8_lossy(buffer).escape_debug())
 }

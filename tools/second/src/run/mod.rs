@@ -2,6 +2,7 @@
 
 pub mod compare;
 pub mod cover;
+pub mod cover_calls;
 pub mod demand3;
 pub mod edges;
 pub mod faults;

@@ -3,9 +3,11 @@
 use super::compare::unit_files;
 use super::cover::Coverage;
 use super::faults::Faults;
-use super::{answers_of_bytes, edges};
+use super::{answers_of_bytes, cover_calls, edges};
+use crate::generate::calls::{call_case, stream as stream_of, CallCase};
 use crate::generate::case::Case;
 use crate::generate::{self, proof_table, FULL_640, TOO_LONG_640};
+use crate::record::calls::{calls as call_lines, Call, BYTES_MOST};
 use crate::record::list::unit_list;
 use crate::stream::{BROKEN, HEADER};
 use crate::switch::Right;
@@ -89,6 +91,40 @@ pub fn unit_input() -> Vec<u8> {
 pub fn units(dir: &Path) -> io::Result<usize> {
     let stdin = unit_input();
     let stdout = unit_list(Right, &stdin);
+    write(dir, &stdin, &stdout)?;
+    Ok(stdout.iter().filter(|c| **c == b'\n').count())
+}
+
+/// So many whole calls are stored, and a damaged one.
+pub const CALLS: usize = 1_500;
+/// The rest is filled up with streams no longer than this.
+const FILLING_CALLS: usize = 600;
+
+/// Calls that show or tell something new, and others; then one of 4,097 bytes, and one more behind it.
+pub fn call_input() -> Vec<u8> {
+    let mut calls = vec![];
+    let mut coverage = cover_calls::Coverage::default();
+    let mut faults = Faults::new();
+    let mut others = vec![];
+    for number in 0..LOOKED_THROUGH {
+        let case = CallCase { damaged: None, ..call_case(SEED, number) };
+        if coverage.shows_new(&case.whole, TIMES) || faults.tell_calls(&case.bytes(), number) {
+            coverage.add(&case);
+            calls.extend(case.whole);
+        } else if case.bytes().len() <= FILLING_CALLS {
+            others.extend(case.whole);
+        }
+    }
+    let room = CALLS.saturating_sub(calls.len());
+    calls.extend(others.into_iter().take(room));
+    let longer = Call::Read(vec![b' '; BYTES_MOST as usize + 1]);
+    let last = calls[0].clone();
+    [stream_of(&calls), stream_of(&[longer, last])].concat()
+}
+
+pub fn calls(dir: &Path) -> io::Result<usize> {
+    let stdin = call_input();
+    let stdout = call_lines(Right, &stdin);
     write(dir, &stdin, &stdout)?;
     Ok(stdout.iter().filter(|c| **c == b'\n').count())
 }
