@@ -1,0 +1,80 @@
+-- What a question about the rows of a lent table is answered, by their tally. A seventh table is one more case of the laws at the end.
+-- Assumes nothing.
+use Prim.Native.Nat.{ℕ, _<_, _≤_}
+use mathlib.Core.Path.{_≡_, refl, _∙_, ap}
+use mathlib.Core.Bool.{Bool, true, false, not}
+use native.Mathlib.Omega.{arith}
+use lib.Dec.{eqb}
+use mathlib.Core.List.{List}
+use Rattle.guideline.specs.Table.{some, number}
+use Rattle.guideline.specs.declared.rows.TableName.{TableName}
+use Rattle.guideline.specs.declared.rows.TableName.the-variants.{T640, T641, T642, T643, T649, T730}
+use Rattle.guideline.specs.Rows.{Row, width, read-row, key}
+use Rattle.guideline.specs.Bytes.{rows-in, rows-of}
+use Rattle.cells.specs.declared.Tally.{Tally}
+use Rattle.cells.specs.Tally.{told}
+use Rattle.cells.specs.Lents.{rows, row-at, tally-of, key-at}
+use Rattle.cells.proofs.Tallied.{hits-tallied, some-told, number-told}
+
+-- what the tally tells of the rows
+module _ (n : TableName) (l : List ℕ) (p : Row n → Bool) where
+  pub rows-told : {t : Tally} → t ≡ tally-of n l p → rows n l p ≡ told (t .count) (row-at n l (t .last))
+  unfolding rows rows-of
+  rows-told e = rw e (hits-tallied p (row-at n l) (rows-in (width n) l))
+
+  pub rows-some : {t : Tally} → t ≡ tally-of n l p → some (rows n l p) ≡ not (eqb (t .count) 0)
+  rows-some {t} e = ap some (rows-told e) ∙ some-told (t .count) (row-at n l (t .last))
+
+  pub rows-none : {t : Tally} → t ≡ tally-of n l p → not (some (rows n l p)) ≡ eqb (t .count) 0
+  rows-none {t} e = ap not (rows-some e) ∙ go (eqb (t .count) 0)
+    where
+      go : (b : Bool) → not (not b) ≡ b
+      go true = refl
+      go false = refl
+
+  pub rows-number : {t : Tally} → t ≡ tally-of n l p → number (rows n l p) ≡ t .count
+  rows-number {t} e = ap number (rows-told e) ∙ number-told (t .count) (row-at n l (t .last))
+
+-- a row has numbers, and at most sixteen
+pub width-some : (n : TableName) → 0 < width n
+width-some T640 = omega arith
+width-some T641 = omega arith
+width-some T642 = omega arith
+width-some T643 = omega arith
+width-some T649 = omega arith
+width-some T730 = omega arith
+
+pub width-most : (n : TableName) → width n ≤ 16
+width-most T640 = omega arith
+width-most T641 = omega arith
+width-most T642 = omega arith
+width-most T643 = omega arith
+width-most T649 = omega arith
+width-most T730 = omega arith
+
+-- the key of a row is the number that it is said to be, and a number of the row
+pub key-read : (n : TableName) (f : ℕ → ℕ) → key n (read-row n f) ≡ f (key-at n)
+key-read T640 f = refl
+key-read T641 f = refl
+key-read T642 f = refl
+key-read T643 f = refl
+key-read T649 f = refl
+key-read T730 f = refl
+
+pub key-inside : (n : TableName) → key-at n < width n
+key-inside T640 = omega arith
+key-inside T641 = omega arith
+key-inside T642 = omega arith
+key-inside T643 = omega arith
+key-inside T649 = omega arith
+key-inside T730 = omega arith
+
+-- a row is made of its numbers
+pub reads : (n : TableName) (f g : ℕ → ℕ) → ((k : ℕ) → k < width n → f k ≡ g k) → read-row n f ≡ read-row n g
+reads T640 f g h = rw (h 0 (omega arith), h 1 (omega arith), h 2 (omega arith))
+reads T641 f g h = rw (h 0 (omega arith), h 1 (omega arith), h 2 (omega arith), h 3 (omega arith), h 4 (omega arith))
+reads T642 f g h = rw (h 0 (omega arith), h 1 (omega arith), h 2 (omega arith), h 3 (omega arith), h 4 (omega arith), h 5 (omega arith))
+reads T643 f g h =
+    rw (h 0 (omega arith), h 1 (omega arith), h 2 (omega arith), h 3 (omega arith), h 4 (omega arith), h 5 (omega arith), h 6 (omega arith), h 7 (omega arith), h 8 (omega arith), h 9 (omega arith))
+reads T649 f g h = rw (h 0 (omega arith), h 1 (omega arith), h 2 (omega arith), h 3 (omega arith))
+reads T730 f g h = rw (h 0 (omega arith), h 1 (omega arith), h 2 (omega arith), h 3 (omega arith), h 4 (omega arith))

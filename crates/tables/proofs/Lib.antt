@@ -1,0 +1,3 @@
+pub mod Visited
+pub mod Asked
+pub mod Stretches
