@@ -24,7 +24,7 @@ use Rattle.filter.specs.declared.Filter.the-variants.{Exact, Twin, UnitOrTwin, 
 use Rattle.filter.specs.Filters.{filter643, frequency-of}
 use Rattle.filter.proofs.Frequencies.{exact-filter, twin-filter, unit-filter, count-filter}
 use Rattle.dose_row.specs.declared.remembered.Remembered.{Remembered}
-use Rattle.dose_row.specs.Remembered.{remembered, places, Valid, Thinned, Stepped}
+use Rattle.dose_row.specs.Remembered.{remembered, places, Thinned, Stepped}
 use Rattle.dose_row.specs.declared.steps.Step.the-variants.{Kept}
 use Rattle.dose_row.proofs.Sets.{none-left, one-left, number-left}
 

@@ -19,7 +19,7 @@ use Rattle.dose_row.specs.declared.remembered.Remembered.{Remembered}
 use Rattle.dose_row.specs.Remembered.{held, places, remembered, Valid, at-place, Keeping, Missed, Thinned}
 use Rattle.dose_row.proofs.Places.{below-keep, below-listed, below-places, below-place, keeping-length, keeping-hit, keeping-miss, keeping-skip, some-at, some-places, keep-map, keep-keep, listed-map, length-map, number-hits, room}
 
-abbrev pub all-places : List ℕ → List ℕ
+abbrev all-places : List ℕ → List ℕ
 all-places l = listed (rows-in (width T643) l) (λ j. j)
 
 among-table : {A : Type 0} (p : A → Bool) (l : List A) → among p (table l) ≡ table (keep p l)

@@ -13,7 +13,6 @@ ghost use Rattle.dose_row.specs.Remembered.{remembered, Valid, Filters, 
 use crate::remembered::Place;
 use crate::remembered::Remembered;
 use filter::Filter;
-use filter::Frequency;
 use filter::Measure;
 use guideline::entry::Prescription;
 use guideline::entry::Value;

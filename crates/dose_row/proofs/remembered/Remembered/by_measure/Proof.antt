@@ -1,6 +1,6 @@
 -- Where the measure matters it has to be given, and some row has to enclose it. Assumes nothing.
 use borrow.Author.Needs.{needs}
-use mathlib.Core.Path.{sym, _∙_, ap}
+use mathlib.Core.Path.{sym, _∙_}
 use borrow.Author.Tests.{not-true, not-false}
 use denote.Ref.{now}
 use Rattle.filter.specs.Filters.{measure-bounds}
