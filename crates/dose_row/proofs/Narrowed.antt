@@ -1,0 +1,119 @@
+-- The steps that filter, told by the set that they leave. Assumes nothing.
+use Prim.Native.Nat.{ℕ}
+use mathlib.Core.Path.{_≡_, refl, sym, _∙_, ap, fun-ext}
+use mathlib.Core.Bool.{Bool, true, false, and-true}
+use mathlib.Core.List.{List}
+use Rattle.guideline.specs.declared.bounds.Bounds.{Bounds}
+use Rattle.guideline.specs.declared.entry.Datum.{Datum}
+use Rattle.guideline.specs.declared.entry.Prescription.{Prescription}
+use Rattle.guideline.specs.declared.entry.Value.{Value}
+use Rattle.guideline.specs.declared.entry.Value.the-variants.{Blank, Given}
+use Rattle.guideline.specs.declared.refusals.Ending.{Ending}
+use Rattle.guideline.specs.declared.refusals.Ending.the-variants.{NoFrequency, RowsSeveral}
+use Rattle.guideline.specs.declared.refusals.Question.{Question}
+use Rattle.guideline.specs.declared.refusals.Refusal.the-variants.{Asks, Ends}
+use Rattle.guideline.specs.declared.refusals.Signal.{Signal}
+use Rattle.guideline.specs.declared.rows.Row643.{Row643}
+use Rattle.guideline.specs.declared.rows.TableName.the-variants.{T643}
+use Rattle.guideline.specs.Values.{encloses, matters}
+use Rattle.guideline.specs.Ask.{asks-for, Chosen, Refused, Done, run, _>>=_}
+use Rattle.guideline.specs.Table.{Table, Hits, None, One, Many, some, number, among, every}
+use Rattle.guideline.specs.Steps.{signal, when, refuse, ask, choose, one, narrow, no-frequency, by-frequency, by-measure, one-row}
+use Rattle.cells.specs.Lents.{row-at}
+use Rattle.filter.specs.declared.Filter.the-variants.{Exact, Twin, UnitOrTwin, Count}
+use Rattle.filter.specs.Filters.{filter643, frequency-of}
+use Rattle.filter.proofs.Frequencies.{exact-filter, twin-filter, unit-filter, count-filter}
+use Rattle.dose_row.specs.declared.remembered.Remembered.{Remembered}
+use Rattle.dose_row.specs.Remembered.{remembered, places, Thinned, Stepped}
+use Rattle.dose_row.specs.declared.steps.Step.the-variants.{Kept}
+use Rattle.dose_row.proofs.Sets.{none-left, one-left, number-left}
+
+-- a filter that leaves no row is refused; else it goes on with what it leaves
+module _ {l : List ℕ} {p : Row643 → Bool} {t : Table Row643} {s : Remembered} (k : Thinned l p t s) (d : Datum → Value) (none : Ending) where
+  some-left : some (t p) ≡ some (remembered l s every)
+  some-left =
+      ap (λ (q : Row643 → Bool). some (t q)) (fun-ext (λ r. sym (and-true (p r))))
+      ∙ ap (λ (u : Table Row643). some (u every)) (sym (k .same))
+
+  pub narrow-none : s .len ≡ 0 → run d (narrow p none t) ≡ Refused (Ends none) tt
+  unfolding narrow when refuse
+  narrow-none e = rw (some-left ∙ ap some (none-left l s e))
+
+  some-of-number : (h : Hits Row643) → (number h ≡ 0 → ⊥) → some h ≡ true
+  some-of-number None z = absurd (z refl)
+  some-of-number (One r) z = refl
+  some-of-number (Many n) z = refl
+
+  pub narrow-some : (s .len ≡ 0 → ⊥) → Stepped l (run d (narrow p none t)) s Kept
+  unfolding narrow when
+  narrow-some z = (rw (some-left ∙ some-of-number (remembered l s every) (λ e. z (sym (number-left l s) ∙ e))) (ap Chosen (sym (k .same))), k .valid)
+
+-- step 9, by the tests of the entered frequency
+module _ (p : Prescription) (t : Table Row643) where
+  abbrev has-exact : Bool
+  has-exact = some (t (filter643 (Exact (frequency-of p))))
+
+  abbrev has-twin : Bool
+  has-twin = some (t (filter643 (Twin (frequency-of p))))
+
+  abbrev has-unit : Bool
+  has-unit = some (t (filter643 (UnitOrTwin (frequency-of p))))
+
+  abbrev has-count : Bool
+  has-count = some (t (filter643 (Count (frequency-of p))))
+
+  module _ (d : Datum → Value) where
+    pub frequency-exact : has-exact ≡ true → run d (by-frequency p t) ≡ Chosen (among (filter643 (Exact (frequency-of p))) t)
+    unfolding by-frequency when
+    frequency-exact h = rw (exact-filter p, h)
+
+    pub frequency-twin : has-exact ≡ false → has-twin ≡ true → run d (by-frequency p t) ≡ Chosen (among (filter643 (Twin (frequency-of p))) t)
+    unfolding by-frequency when
+    frequency-twin h k = rw (exact-filter p, twin-filter p, h, k)
+
+    pub frequency-none : has-exact ≡ false → has-twin ≡ false → run d (by-frequency p t) ≡ Refused (Ends (NoFrequency (signal p t))) tt
+    unfolding by-frequency no-frequency when refuse
+    frequency-none h k = rw (exact-filter p, twin-filter p, h, k)
+
+  pub count-differs : has-unit ≡ true → Signal.OnlyCount ≡ signal p t
+  unfolding signal when
+  count-differs h = rw (ap (λ (q : Row643 → Bool). some (t q)) (unit-filter p) ∙ h)
+
+  pub unit-differs : has-unit ≡ false → has-count ≡ true → Signal.OnlyUnit ≡ signal p t
+  unfolding signal when
+  unit-differs h k =
+      rw (ap (λ (q : Row643 → Bool). some (t q)) (unit-filter p) ∙ h, ap (λ (q : Row643 → Bool). some (t q)) (count-filter p) ∙ k)
+
+  pub both-differ : has-unit ≡ false → has-count ≡ false → Signal.Both ≡ signal p t
+  unfolding signal when
+  both-differ h k =
+      rw (ap (λ (q : Row643 → Bool). some (t q)) (unit-filter p) ∙ h, ap (λ (q : Row643 → Bool). some (t q)) (count-filter p) ∙ k)
+
+-- step 10
+module _ (q : Question) (none : Ending) (bounds : Row643 → Bounds) (t : Table Row643) (d : Datum → Value) where
+  pub measure-unneeded : some (t (λ r. matters (bounds r))) ≡ false → run d (by-measure q none bounds t) ≡ Chosen t
+  unfolding by-measure when
+  measure-unneeded h = rw h
+
+  pub measure-blank : some (t (λ r. matters (bounds r))) ≡ true → d (asks-for q) ≡ Blank → run d (by-measure q none bounds t) ≡ Refused (Asks q) tt
+  unfolding by-measure when ask _>>=_
+  measure-blank h b = rw (h, b)
+
+  pub measure-given : {x : ℕ} → some (t (λ r. matters (bounds r))) ≡ true → d (asks-for q) ≡ Given x → run d (by-measure q none bounds t) ≡ run d (narrow (λ r. encloses (bounds r) x) none t)
+  unfolding by-measure when ask _>>=_
+  measure-given h b = rw (h, b)
+
+-- step 11
+module _ (l : List ℕ) (s : Remembered) (d : Datum → Value) where
+  pub row-one : s .len ≡ 1 → run d (one-row (remembered l s)) ≡ Chosen (row-at T643 l (places s 0))
+  unfolding one-row one choose
+  row-one e = rw (one-left l s e)
+
+  pub row-several : (s .len ≡ 1 → ⊥) → run d (one-row (remembered l s)) ≡ Refused (Ends RowsSeveral) tt
+  unfolding one-row one choose refuse
+  row-several z = go (remembered l s every) (λ e. z (sym (number-left l s) ∙ e))
+    where
+      go : (h : Hits Row643) → (number h ≡ 1 → ⊥) → run d (choose h (refuse RowsSeveral) (λ a. Done a) (refuse RowsSeveral)) ≡ Refused (Ends RowsSeveral) tt
+      go None n = refl
+      go (One r) n = absurd (n refl)
+      go (Many m) n = refl
