@@ -20,7 +20,7 @@ returns c =
     let at-refusal = c .before in
     let at-told = at-refusal .before in
     let at-step = at-told .before .before in
-    let a = at-step .before .before .before .before .args in
+    let a = at-step .before .before .before .before .before .args in
     let d = datum (a .d) in
     let p = level (rows T641 (now (a .t641))) (a .p .gpk) in
     let no = told-641 (run d p) (at-step .level .ensures) (at-told .enum-told .given .1) in
@@ -30,7 +30,7 @@ returns-2 : tie.Need-returns-2
 returns-2 c =
     let at-row = c .before .before in
     let at-step = at-row .before .before in
-    let a = at-step .before .before .before .before .args in
+    let a = at-step .before .before .before .before .before .args in
     let d = datum (a .d) in
     let p = level (rows T641 (now (a .t641))) (a .p .gpk) in
     let yes = told-641 (run d p) (at-step .level .ensures) (at-row .step .given .1) in
