@@ -22,7 +22,10 @@ abbrev μ-loop : tie.MeasureT-loop
 μ-loop t n rows i₀ i = rows - i
 
 loop-holds : tie.Need-loop-holds Inv-loop μ-loop
-loop-holds c = tallying-none _ _
+loop-holds c =
+    let a = c .before .before .args in
+    let none = tallying-none (λ j. not (sound-row (a .n) (row-at (a .n) (now (a .t)) j))) (rows-in (width (a .n)) (now (a .t))) in
+    (omega arith, omega arith, none .2, none .3)
 
 returns : tie.Need-returns Inv-loop μ-loop
 returns c =
