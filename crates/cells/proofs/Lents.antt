@@ -35,15 +35,7 @@ module _ (n : TableName) (l : List ℕ) (p : Row n → Bool) where
   pub rows-number : {t : Tally} → t ≡ tally-of n l p → number (rows n l p) ≡ t .count
   rows-number {t} e = ap number (rows-told e) ∙ number-told (t .count) (row-at n l (t .last))
 
--- a row has numbers, and at most sixteen
-pub width-some : (n : TableName) → 0 < width n
-width-some T640 = omega arith
-width-some T641 = omega arith
-width-some T642 = omega arith
-width-some T643 = omega arith
-width-some T649 = omega arith
-width-some T730 = omega arith
-
+-- a row has at most sixteen numbers
 pub width-most : (n : TableName) → width n ≤ 16
 width-most T640 = omega arith
 width-most T641 = omega arith
@@ -68,6 +60,9 @@ key-inside T642 = omega arith
 key-inside T643 = omega arith
 key-inside T649 = omega arith
 key-inside T730 = omega arith
+
+pub width-some : (n : TableName) → 0 < width n
+width-some n = let h : key-at n < width n = key-inside n in omega arith
 
 -- a row is made of its numbers
 pub reads : (n : TableName) (f g : ℕ → ℕ) → ((k : ℕ) → k < width n → f k ≡ g k) → read-row n f ≡ read-row n g

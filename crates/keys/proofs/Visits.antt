@@ -3,7 +3,6 @@ use Prim.Native.Nat.{ℕ, _+_, _<_}
 use mathlib.Core.Path.{_≡_}
 use mathlib.Core.Bool.{Bool, true, false}
 use mathlib.Core.List.{List}
-use native.Mathlib.Omega.{arith}
 use Rattle.guideline.specs.Bytes.{cell, rows-in}
 use Rattle.cells.specs.Tally.{Tallying}
 use Rattle.cells.proofs.Tallied.{tallying-none, tallying-hit, tallying-miss, tallying-skip}

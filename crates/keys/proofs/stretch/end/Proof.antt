@@ -36,7 +36,7 @@ loop-again c =
     let i = c .before .before .before .loop .i in
     let n = rows-in (a .width) (now (a .t)) in
     let one = without-one (a .width) (a .k) (a .key) (now (a .t)) (i - 1) (λ same. c .if1 .left (c .before .cell .ensures ∙ same)) in
-    (omega arith, omega arith, without-both (a .width) (a .k) (a .key) (now (a .t)) (i - 1) (i - 1 + 1) n one (λ j above. c .before .before .before .loop .inv .2 j (omega arith)))
+    (omega arith, omega arith, λ m past. without-both (a .width) (a .k) (a .key) (now (a .t)) (i - 1) (i - 1 + 1) n one (λ j above. c .before .before .before .loop .inv .2 j (omega arith)) m (omega arith))
 
 returns-2 : tie.Need-returns-2 Inv-loop μ-loop
 returns-2 c =

@@ -26,19 +26,19 @@ in-order : (c : After-end) → c .before .next .result * (c .before .before .bef
 in-order c = mul-le-mul-right (c .before .before .before .args .width * 4) (c .end .ensures .0)
 
 mul-a : tie.Need-mul-a
-mul-a c = let h = from-inside c in search (h, needs)
+mul-a c = search (from-inside c, to-inside c, needs)
 
 mul-b : tie.Need-mul-b
-mul-b c = let h = to-inside c in search (h, needs)
+mul-b c = search (from-inside c, to-inside c, needs)
 
 sub-result : tie.Need-sub-result
-sub-result c = in-order c
+sub-result c = search (in-order c, needs)
 
 part-result-start : tie.Need-part-result-start
-part-result-start c = in-order c
+part-result-start c = search (in-order c, needs)
 
 part-result-end : tie.Need-part-result-end
-part-result-end c = to-inside c
+part-result-end c = search (from-inside c, to-inside c, needs)
 
 returns : tie.Need-returns
 returns c =

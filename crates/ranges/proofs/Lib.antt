@@ -1,0 +1,2 @@
+pub mod Soundly
+pub mod Tried
