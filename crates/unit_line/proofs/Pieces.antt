@@ -8,7 +8,7 @@ use native.Mathlib.Omega.{arith}
 use Rattle.decimals.specs.Decimal.{space, line-feed, field}
 use Rattle.records.specs.Ascii.{ascii}
 use Rattle.records.specs.Digits.{digits}
-use Rattle.records.specs.Numbers.{readRefusal}
+use Rattle.records.specs.Numbers.{read-refusal}
 use Rattle.records.specs.declared.Record730.{Record730}
 use Rattle.records.specs.declared.Read730.the-variants.{Record, Refused}
 use Rattle.records.specs.declared.ReadRefusal.{ReadRefusal}
@@ -31,12 +31,12 @@ row-pieces r = refl
 pub length-row : (r : Record730) → length (line (Record r)) ≡ length (field (r .srtcde) space) + (length (field (r .code) space) + (length (amount (r .cdhoev) space) + length (field (r .cdeenh) line-feed)))
 length-row r = rw (row-pieces r, length-append (field (r .srtcde) space), length-append (field (r .code) space), length-append (amount (r .cdhoev) space))
 
-pub refused-pieces : (e : ReadRefusal) → line (Refused e) ≡ ascii "refused " ++ field (readRefusal e) line-feed
+pub refused-pieces : (e : ReadRefusal) → line (Refused e) ≡ ascii "refused " ++ field (read-refusal e) line-feed
 unfolding line
 refused-pieces e = refl
 
-pub length-refused : (e : ReadRefusal) → length (line (Refused e)) ≡ 8 + length (field (readRefusal e) line-feed)
-length-refused e = rw (refused-pieces e) (length-append (ascii "refused ") (field (readRefusal e) line-feed))
+pub length-refused : (e : ReadRefusal) → length (line (Refused e)) ≡ 8 + length (field (read-refusal e) line-feed)
+length-refused e = rw (refused-pieces e) (length-append (ascii "refused ") (field (read-refusal e) line-feed))
 
 pub sets-four : (b : List ℕ) (i w x y z : ℕ) → set (set (set (set b i w) (i + 1) x) (i + 2) y) (i + 3) z ≡ sets b i (w ∷ x ∷ y ∷ z ∷ [])
 sets-four b i w x y z =

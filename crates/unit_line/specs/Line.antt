@@ -4,7 +4,7 @@ use mathlib.Core.List.{List, [], _∷_, _++_}
 use Rattle.decimals.specs.Decimal.{space, line-feed, field}
 use Rattle.records.specs.Ascii.{ascii}
 use Rattle.records.specs.Digits.{digits}
-use Rattle.records.specs.Numbers.{readRefusal}
+use Rattle.records.specs.Numbers.{read-refusal}
 use Rattle.records.specs.declared.Read730.{Read730}
 use Rattle.records.specs.declared.Read730.the-variants.{Record, Refused}
 
@@ -18,4 +18,4 @@ amount n behind = field (n / 1000) point ++ (digits 3 (n % 1000) ++ (behind ∷ 
 -- SRTCDE, CODE, amount, unit with one space between, or the word refused, a space and the number; ended by a line feed
 unfoldable pub line : Read730 → List ℕ
 line (Record r) = field (r .srtcde) space ++ (field (r .code) space ++ (amount (r .cdhoev) space ++ field (r .cdeenh) line-feed))
-line (Refused e) = ascii "refused " ++ field (readRefusal e) line-feed
+line (Refused e) = ascii "refused " ++ field (read-refusal e) line-feed

@@ -4,7 +4,7 @@ ghost use Prim.Native.Nat.{_+_, _≤_};
 ghost use lib.ListN.{length};
 ghost use Rattle.decimals.specs.Decimal.{space};
 ghost use Rattle.decimals.specs.Put.{Put};
-ghost use Rattle.records.specs.Numbers.{readRefusal};
+ghost use Rattle.records.specs.Numbers.{read-refusal};
 ghost use Rattle.unit_line.specs.Line.{amount, line};
 use decimals::LINE_FEED;
 use decimals::SPACE;
@@ -41,7 +41,7 @@ fn put_row(out: &mut [u8], at: usize, r: Record730) -> usize
 }
 
 fn number_of(e: ReadRefusal) -> u64
-    ensures { λ r. ⌜ r ≡ readRefusal e ⌝ }
+    ensures { λ r. ⌜ r ≡ read-refusal e ⌝ }
 {
     match e {
         ReadRefusal::Length => 201,
