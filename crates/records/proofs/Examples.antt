@@ -9,7 +9,7 @@ use Rattle.records.specs.Ascii.{ascii}
 use Rattle.records.specs.Digits.{digits}
 use Rattle.records.specs.Layout.{every, values, numbers, scan, fits, spell, answer, leaving}
 use Rattle.records.specs.File730.{reading, writing, leaves}
-use Rattle.records.specs.Numbers.{read-numbers, write-number}
+use Rattle.records.specs.Numbers.{read-numbers}
 use Rattle.records.specs.declared.Record730.{Record730}
 
 -- pieces run together
@@ -79,7 +79,7 @@ drops : Record730
 drops = record { mutation = 0; srtcde = 1; code = 216267; cdhoev = 20000; cdeenh = 303 }
 
 -- in a buffer of 70 points, at place 2
-writes-0 : (write-number (writing drops 2 70) ≡ 0)
+writes-0 : (writing drops 2 70 ≡ 0)
     × (leaves drops 2 (replicate 70 46) ≡ run (".." ∷ "0730" ∷ "0" ∷ "1850" ∷ "000001" ∷ "00216267" ∷ "000000020000" ∷ "0002" ∷ "000303" ∷ nineteen ∷ "...." ∷ []))
 unfolding drops run nineteen leaves leaving writing answer fits spell digits
 writes-0 = (refl, refl)
@@ -92,14 +92,14 @@ fourth : Record730
 fourth = record { mutation = 4; srtcde = 1; code = 216267; cdhoev = 20000; cdeenh = 303 }
 
 -- in a buffer with no room: too wide is tested first
-wide-205 : (write-number (writing nine 0 3) ≡ 205) × (write-number (writing fourth 0 3) ≡ 205) × (leaves nine 0 (ascii "...") ≡ ascii "...")
+wide-205 : (writing nine 0 3 ≡ 205) × (writing fourth 0 3 ≡ 205) × (leaves nine 0 (ascii "...") ≡ ascii "...")
 unfolding nine fourth leaves leaving writing answer fits
 wide-205 = (refl, refl, refl)
 
 -- one character short; a place at the buffer's end; the largest place, where place + 64 would wrap in 64 bits
-room-206 : (write-number (writing drops 1 64) ≡ 206)
-    × (write-number (writing drops 64 64) ≡ 206)
-    × (write-number (writing drops (2 ^ 64 - 1) 64) ≡ 206)
+room-206 : (writing drops 1 64 ≡ 206)
+    × (writing drops 64 64 ≡ 206)
+    × (writing drops (2 ^ 64 - 1) 64 ≡ 206)
     × (leaves drops 1 (replicate 64 46) ≡ replicate 64 46)
 unfolding drops leaves leaving writing answer fits
 room-206 = (refl, refl, refl, refl)

@@ -1,6 +1,6 @@
 -- Characters at a place, decimal digits with zeros in front, and the number that digits say. A character is a byte: 48 is 0, and 57 is 9. Assumes nothing.
 use Prim.Native.Nat.{ℕ, zero, suc, _+_, _-_, _*_, _/_, _%_}
-use mathlib.Core.Bool.{Bool, true, false, _&&_}
+use mathlib.Core.Bool.{Bool, true, false, cond, _&&_}
 use mathlib.Core.List.{List, [], _∷_, _++_}
 use lib.ListN.{take, drop}
 use lib.Dec.{leb, eqb}
@@ -13,8 +13,7 @@ chars s at k = take k (drop at s)
 
 -- the refusal unless the test is passed, and then what follows
 abbrev pub unless : {A : Type 0} → Bool → A → A → A
-unless true refusal next = next
-unless false refusal next = refusal
+unless passed refusal next = cond passed next refusal
 
 abbrev pub same : List ℕ → List ℕ → Bool
 same [] [] = true

@@ -1,14 +1,10 @@
--- A file's record as a list of parts, and what reading and writing such a record mean, whatever the file. Assumes nothing.
-use Prim.Native.Nat.{ℕ, _+_, _^_}
+-- A file's record as a list of parts, and what reading and writing such a record mean, whatever the file, in document 01's numbers. Assumes nothing.
+use Prim.Native.Nat.{ℕ, zero, suc, _+_, _^_}
 use mathlib.Core.Bool.{Bool, true, _&&_}
 use mathlib.Core.List.{List, [], _∷_, _++_}
 use lib.ListN.{length, take, drop}
 use lib.Dec.{leb, ltb, eqb}
 use Rattle.records.specs.Digits.{chars, unless, same, digits, digits-only, horner}
-use Rattle.records.specs.declared.ReadRefusal.{ReadRefusal}
-use Rattle.records.specs.declared.ReadRefusal.the-variants.{Length, Fixed, Digit, Mutation}
-use Rattle.records.specs.declared.Written.{Written}
-use Rattle.records.specs.declared.Written.the-variants.{Done, TooWide, NoRoom}
 
 -- fixed text; the mutation digit, 0 to 3; a number of so many digits
 pub data Part : Type 0 where
@@ -67,21 +63,26 @@ unfoldable pub values : (ps : List Part) → ℕ → List ℕ → Values ps
 values [] at s = tt
 values (p ∷ ps) at s = (value p (chars s at (width p)), values ps (at + width p) s)
 
-pub data Scanned (ps : List Part) : Type 0 where
-  said : Values ps → Scanned ps
-  refused : ReadRefusal → Scanned ps
+-- what was read, or the number of the refusal
+pub data Reading (A : Type 0) : Type 0 where
+  said : A → Reading A
+  refused : ℕ → Reading A
 
-unfoldable pub numbers : (ps : List Part) → List ℕ → Scanned ps
+abbrev pub read-by : {A B : Type 0} → (A → B) → Reading A → Reading B
+read-by f (said v) = said (f v)
+read-by f (refused n) = refused n
+
+unfoldable pub numbers : (ps : List Part) → List ℕ → Reading (Values ps)
 numbers ps s =
-    unless (every digit-part ps 0 s) (refused Digit)
-    (unless (every mutation-part ps 0 s) (refused Mutation)
+    unless (every digit-part ps 0 s) (refused 203)
+    (unless (every mutation-part ps 0 s) (refused 204)
     (said (values ps 0 s)))
 
 -- reading a record: the tests in document 01's order, all fixed parts before any digit
-unfoldable pub scan : (ps : List Part) → List ℕ → Scanned ps
+unfoldable pub scan : (ps : List Part) → List ℕ → Reading (Values ps)
 scan ps s =
-    unless (eqb (length s) (total ps)) (refused Length)
-    (unless (every fixed-part ps 0 s) (refused Fixed)
+    unless (eqb (length s) (total ps)) (refused 201)
+    (unless (every fixed-part ps 0 s) (refused 202)
     (numbers ps s))
 
 -- 205: a number is too wide, or the mutation digit above 3
@@ -104,18 +105,17 @@ unfoldable pub spell : (ps : List Part) → Values ps → List ℕ
 spell [] v = []
 spell (p ∷ ps) v = spelt p (v .0) ++ spell ps (v .1)
 
--- the answer to writing at a place of a buffer with that room: 205 before 206
-unfoldable pub answer : (ps : List Part) → Values ps → ℕ → ℕ → Written
+-- the answer to writing at a place of a buffer with that room: 0 where it is done
+unfoldable pub answer : (ps : List Part) → Values ps → ℕ → ℕ → ℕ
 answer ps v at room =
-    unless (fits ps v) TooWide
-    (unless (leb (at + total ps) room) NoRoom
-    Done)
+    unless (fits ps v) 205
+    (unless (leb (at + total ps) room) 206
+    0)
 
 -- the buffer after that answer: the new characters at the place and nothing else touched, or all as it was
-abbrev pub after : Written → List ℕ → ℕ → List ℕ → List ℕ
-after Done old at new = take at old ++ (new ++ drop (at + length new) old)
-after TooWide old at new = old
-after NoRoom old at new = old
+abbrev pub after : ℕ → List ℕ → ℕ → List ℕ → List ℕ
+after zero old at new = take at old ++ (new ++ drop (at + length new) old)
+after (suc n) old at new = old
 
 -- what writing leaves in the buffer
 unfoldable pub leaving : (ps : List Part) → Values ps → ℕ → List ℕ → List ℕ

@@ -2,8 +2,9 @@
 ghost use mathlib.Core.Path.{_≡_};
 ghost use Prim.Native.Nat.{_+_, _≤_};
 ghost use lib.ListN.{length};
-ghost use Rattle.records.specs.Layout.{every, fixed-part, numbers, fits};
-ghost use Rattle.records.specs.File730.{layout-730, values-730, reading, read-as-730, writing, leaves};
+ghost use Rattle.records.specs.Layout.{every, fixed-part, read-by, numbers, fits};
+ghost use Rattle.records.specs.File730.{layout-730, values-730, record-730, reading, writing, leaves};
+ghost use Rattle.records.specs.Numbers.{says, write-number};
 ghost use Rattle.records.specs.Puts.{puts, front-730, front-values, back-730, back-values};
 
 mod parts;
@@ -86,7 +87,7 @@ const HIGHEST_CDHOEV: u64 = 999999999999;
 const HIGHEST_CDEENH: u32 = 999999;
 
 pub fn read_730(s: &[u8]) -> Read730
-    ensures { λ r. ⌜ r ≡ reading (now (s .entry)) ⌝ }
+    ensures { λ r. ⌜ says r ≡ reading (now (s .entry)) ⌝ }
 {
     if s.len() != LENGTH_730 {
         return Read730::Refused(ReadRefusal::Length);
@@ -115,7 +116,7 @@ fn fixed_730(s: &[u8]) -> bool
 
 fn numbers_730(s: &[u8]) -> Read730
     requires { ⌜ length (now s) ≡ 64 ⌝ }
-    ensures { λ r. ⌜ r ≡ read-as-730 (numbers layout-730 (now (s .entry))) ⌝ }
+    ensures { λ r. ⌜ says r ≡ read-by record-730 (numbers layout-730 (now (s .entry))) ⌝ }
 {
     let Field::Number(mutation) = number_at(s, MUTKOD, MUTKOD_WIDTH) else {
         return Read730::Refused(ReadRefusal::Digit);
@@ -145,7 +146,7 @@ fn numbers_730(s: &[u8]) -> Read730
 }
 
 pub fn write_730(buf: &mut [u8], at: usize, r: Record730) -> Written
-    ensures { λ w. ⌜ (w ≡ writing r at (length (now (buf .entry)))) × (now (buf .exit) ≡ leaves r at (now (buf .entry))) ⌝ }
+    ensures { λ w. ⌜ (write-number w ≡ writing r at (length (now (buf .entry)))) × (now (buf .exit) ≡ leaves r at (now (buf .entry))) ⌝ }
 {
     let fits = fits_730(r);
     let room = has_room(buf.len(), at, LENGTH_730);

@@ -9,10 +9,8 @@ use native.Mathlib.Nat.{not-suc-le-zero}
 use borrow.Author.Tests.{le-leb, lt-leb, ne-eqb}
 use lib.ListN.{length, take, drop, length-append}
 use lib.Seq.{getD-append-add, take-append-le, length-take-le, take-append-seam, sets-eq}
-use Rattle.records.specs.Layout.{scan}
+use Rattle.records.specs.Layout.{refused, scan}
 use Rattle.records.specs.File730.{reading}
-use Rattle.records.specs.declared.Read730.the-variants.{Refused}
-use Rattle.records.specs.declared.ReadRefusal.the-variants.{Length}
 use Rattle.unit_line.specs.Line.{line}
 use Rattle.unit_lines.specs.Records.{crlf, line-of, lines-of, unless-empty}
 use Rattle.unit_lines.specs.Machine.{last-of, but-last, go-on, kept-most, shrunk, no-bytes, keep, text-of}
@@ -41,7 +39,7 @@ kept-text t =
     rw (sets-eq (shrunk t) no-bytes 0 h) (take-append-seam (shrunk t) (drop (0 + length (shrunk t)) no-bytes))
 
 -- a record of any other length is refused, whatever it holds
-line-length : (t : List ℕ) → (length t ≡ 64 → ⊥) → line-of t ≡ line (Refused Length)
+line-length : (t : List ℕ) → (length t ≡ 64 → ⊥) → line-of t ≡ line (refused 201)
 unfolding line-of reading scan
 line-length t h = rw (ne-eqb (length t) 64 h)
 
