@@ -6,7 +6,7 @@ use mathlib.Core.Path.{_≡_, ap}
 use native.Mathlib.Omega.{arith}
 use borrow.Author.Tests.{leb-true, ltb-true, le-leb, lt-ltb}
 use lib.Dec.{leb, ltb}
-use Rattle.records.specs.Layout.{Values, Reading, said, refused, read-by, scan, fits}
+use Rattle.records.specs.Layout.{Reading, said, refused, read-by, scan, fits}
 use Rattle.records.specs.File730.{layout-730, record-730, reading, writable}
 use Rattle.records.specs.declared.Record730.{Record730}
 use Rattle.records.proofs.Bools.{and-split}

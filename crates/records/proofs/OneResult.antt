@@ -4,9 +4,8 @@ use mathlib.Core.Bool.{cond}
 use mathlib.Core.Path.{_≡_, refl, sym, ap, _∙_}
 use lib.Dec.{eqb}
 use Rattle.records.specs.Layout.{Reading, said, refused}
-use Rattle.records.specs.Numbers.{read-refusal, says, write-number}
+use Rattle.records.specs.Numbers.{says, write-number}
 use Rattle.records.specs.declared.Record730.{Record730}
-use Rattle.records.specs.declared.ReadRefusal.{ReadRefusal}
 use Rattle.records.specs.declared.ReadRefusal.the-variants.{Length, Fixed, Digit, Mutation}
 use Rattle.records.specs.declared.Read730.{Read730}
 use Rattle.records.specs.declared.Read730.the-variants.{Record, Refused}

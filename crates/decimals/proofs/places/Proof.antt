@@ -1,6 +1,6 @@
 -- The number falls to its tenth and the count rises by one.
 use Prim.Native.Nat.{_≤_, _+_}
-use mathlib.Core.Path.{_≡_, refl, ap}
+use mathlib.Core.Path.{_≡_, ap}
 use native.Mathlib.Omega.{arith}
 use borrow.Author.Needs.{needs}
 use lib.ListN.{length}

@@ -5,7 +5,7 @@ use native.Mathlib.Omega.{arith}
 use borrow.Author.Needs.{needs}
 use borrow.Author.Tests.{leb-true, leb-false}
 use lib.ListN.{length}
-use Rattle.unit_lines.specs.Machine.{longest-line, run}
+use Rattle.unit_lines.specs.Machine.{longest-line}
 use Rattle.unit_lines.proofs.Ends.{found-inside}
 use Rattle.unit_lines.proofs.Longest.{longest}
 use Rattle.unit_lines.proofs.Whole.{Rest, run-from, rest-on, rest-none, rest-full, put-inside, put-length}
