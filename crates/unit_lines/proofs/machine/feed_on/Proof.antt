@@ -1,5 +1,5 @@
 -- The record that has begun is ended by what follows, or goes on in it.
-use Prim.Native.Nat.{_-_}
+
 use native.Mathlib.Omega.{arith}
 use denote.Ref.{now}
 use Rattle.unit_lines.proofs.Feeding.{end-inside, feeds-text, begun-some, feeds-records}
