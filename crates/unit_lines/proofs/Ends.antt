@@ -12,21 +12,21 @@ use lib.ListN.{length, getD, drop, drop-of-length-le, length-drop}
 use lib.Seq.{drop-cons}
 use lib.Dec.{eqb}
 use Rattle.records.proofs.Bools.{and-true}
-use Rattle.unit_line.specs.Line.{lineFeed}
+use Rattle.decimals.specs.Decimal.{line-feed}
 use Rattle.unit_lines.specs.Records.{crlf, carriageReturn}
 use Rattle.unit_lines.specs.Machine.{endIn}
-use Rattle.unit_line.proofs.Cases.{true-or-false}
+use Rattle.decimals.proofs.Cases.{true-or-false}
 use Rattle.unit_lines.proofs.Run.{end-here, end-on}
 
 and-false : (b : Bool) → false ≡ (b && false)
 and-false true = refl
 and-false false = refl
 
-pub crlf-feed : (p c : ℕ) → c ≡ lineFeed → eqb p carriageReturn ≡ crlf p c
-crlf-feed p c e = rw (eq-eqb c lineFeed e) (and-true (eqb p carriageReturn))
+pub crlf-feed : (p c : ℕ) → c ≡ line-feed → eqb p carriageReturn ≡ crlf p c
+crlf-feed p c e = rw (eq-eqb c line-feed e) (and-true (eqb p carriageReturn))
 
-pub crlf-not : (p c : ℕ) → (c ≡ lineFeed → ⊥) → false ≡ crlf p c
-crlf-not p c n = rw (ne-eqb c lineFeed n) (and-false (eqb p carriageReturn))
+pub crlf-not : (p c : ℕ) → (c ≡ line-feed → ⊥) → false ≡ crlf p c
+crlf-not p c n = rw (ne-eqb c line-feed n) (and-false (eqb p carriageReturn))
 
 module _ (p : ℕ) (s : List ℕ) (i : ℕ) (h : i < length s) where
   pub end-found : crlf p (getD s i 0) ≡ true → endIn p (drop i s) ≡ 0

@@ -6,15 +6,15 @@ use mathlib.Core.Logic.{⊎-elim}
 use native.Mathlib.Omega.{arith}
 use lib.ListN.{length, take, drop, length-append, length-drop, drop-of-length-le}
 use lib.Seq.{sets, length-take-le, take-all, drop-drop}
-use Rattle.unit_line.specs.Put.{Put}
+use Rattle.decimals.specs.Put.{Put}
 use Rattle.unit_lines.specs.Records.{lineOf}
 use Rattle.unit_lines.specs.Machine.{lastOf, butLast, endIn, longestLine, Run, stopped, after, shrunk, keep, textOf}
 use Rattle.unit_lines.specs.Feeding.{feeding, Feeds, Moves}
 use Rattle.unit_lines.specs.declared.text.ListMachine.{ListMachine}
 use Rattle.unit_lines.specs.declared.machine.Fed.{Fed}
 use Rattle.unit_lines.specs.declared.machine.Moved.{Moved}
-use Rattle.unit_line.proofs.Cases.{lt-or-ge}
-use Rattle.unit_line.proofs.Sets.{put-on}
+use Rattle.decimals.proofs.Cases.{lt-or-ge}
+use Rattle.decimals.proofs.Puts.{put-on}
 use Rattle.unit_lines.proofs.Run.{run-full, run-none-left, run-none, run-end}
 use Rattle.unit_lines.proofs.Ends.{end-most, end-first}
 use Rattle.unit_lines.proofs.Shrunk.{shrunk-short, shrunk-long, kept-text, line-shrunk}

@@ -1,21 +1,20 @@
 -- Finishing: no text, no room, or a last line. Assumes nothing.
 use Prim.Native.Nat.{ℕ, _-_, _<_, _≤_}
-use mathlib.Core.Bool.{Bool, true, false}
+use mathlib.Core.Bool.{Bool, true, false, cond}
 use mathlib.Core.List.{List, [], _∷_}
 use mathlib.Core.Path.{_≡_, refl}
 use native.Mathlib.Omega.{arith}
 use borrow.Author.Tests.{lt-ltb, le-ltb}
 use lib.ListN.{length}
 use lib.Dec.{ltb}
-use Rattle.unit_line.specs.Line.{pick}
-use Rattle.unit_line.specs.Put.{Put}
+use Rattle.decimals.specs.Put.{Put}
 use Rattle.unit_lines.specs.Records.{lineOf, linesOf}
 use Rattle.unit_lines.specs.Machine.{longestLine, lastLine, textOf}
 use Rattle.unit_lines.specs.Feeding.{Finishes}
 use Rattle.unit_lines.specs.declared.text.ListMachine.{ListMachine}
 use Rattle.unit_lines.proofs.Shrunk.{one-line}
 
-same-either : (b : Bool) (l : List ℕ) → pick b l l ≡ l
+same-either : (b : Bool) (l : List ℕ) → cond b l l ≡ l
 same-either true l = refl
 same-either false l = refl
 

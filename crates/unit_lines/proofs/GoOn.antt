@@ -9,7 +9,7 @@ use lib.ListN.{length, length-append}
 use lib.Seq.{getD-append-seam, take-append-seam}
 use Rattle.unit_lines.specs.Records.{crlf, Parts, ending, onto, parts}
 use Rattle.unit_lines.specs.Machine.{lastOf, butLast, goOn}
-use Rattle.unit_line.proofs.Cases.{true-or-false}
+use Rattle.decimals.proofs.Cases.{true-or-false}
 
 length-last : (t : List ℕ) (c : ℕ) → length (t ++ (c ∷ [])) - 1 ≡ length t
 length-last t c = rw (length-append t (c ∷ [])) (omega arith)

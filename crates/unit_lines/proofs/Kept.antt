@@ -11,7 +11,7 @@ use Rattle.records.proofs.Stores.{sets-append}
 use Rattle.unit_lines.specs.Machine.{lastOf, butLast, keptMost, shrunk, noBytes, keep, textOf}
 use Rattle.unit_lines.specs.declared.text.ListMachine.{ListMachine}
 use Rattle.unit_lines.proofs.Shrunk.{shrunk-short, shrunk-long, length-shrunk, shrunk-more, kept-text, last-append}
-use Rattle.unit_line.proofs.Cases.{lt-or-ge}
+use Rattle.decimals.proofs.Cases.{lt-or-ge}
 
 pub keep-short : (t : List ℕ) → length t ≤ keptMost → keep t ≡ record { bytes = sets noBytes 0 t; len = length t }
 unfolding keep

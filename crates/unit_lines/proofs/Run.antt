@@ -11,7 +11,7 @@ use borrow.Author.Tests.{lt-ltb, le-ltb}
 use lib.ListN.{length, take, drop}
 use Rattle.unit_lines.specs.Records.{crlf, lineOf, linesOf}
 use Rattle.unit_lines.specs.Machine.{lastOf, butLast, goOn, endIn, longestLine, Run, stopped, after, run}
-use Rattle.unit_line.proofs.Cases.{true-or-false, lt-or-ge}
+use Rattle.decimals.proofs.Cases.{true-or-false, lt-or-ge}
 use Rattle.unit_lines.proofs.GoOn.{last-added, go-end, go-more}
 
 pub run-full : (room : ℕ) (t s : List ℕ) → room < longestLine → run room t s ≡ stopped t

@@ -7,7 +7,7 @@ use native.Mathlib.Nat.{add-zero}
 use lib.ListN.{length, take, drop, length-append, length-drop}
 use lib.Seq.{sets, length-sets, take-take, take-all, length-take-le, drop-drop}
 use Rattle.records.proofs.Stores.{sets-append}
-use Rattle.unit_line.specs.Put.{Put}
+use Rattle.decimals.specs.Put.{Put}
 use Rattle.unit_lines.specs.Records.{lineOf}
 use Rattle.unit_lines.specs.Machine.{butLast, endIn, longestLine, Run, stopped, after, run}
 use Rattle.unit_lines.specs.Feeding.{Moves}

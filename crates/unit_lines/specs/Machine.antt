@@ -1,10 +1,10 @@
 -- The list machine: the text of the record that has begun, what feeding and finishing do with it, and what is kept of it. Assumes nothing.
 use Prim.Native.Nat.{ℕ, suc, _+_, _-_}
+use mathlib.Core.Bool.{cond}
 use mathlib.Core.List.{List, [], _∷_, _++_}
 use lib.ListN.{length, getD, take, replicate}
 use lib.Seq.{sets}
 use lib.Dec.{ltb, leb}
-use Rattle.unit_line.specs.Line.{pick}
 use Rattle.unit_lines.specs.Records.{crlf, Parts, ending, lineOf, linesOf, unlessEmpty}
 use Rattle.unit_lines.specs.declared.text.ListMachine.{ListMachine}
 
@@ -17,12 +17,12 @@ butLast t = take (length t - 1) t
 -- the parts of a text that has begun and of what follows it, character by character
 unfoldable pub goOn : List ℕ → List ℕ → Parts
 goOn t [] = record { ended = []; rest = t }
-goOn t (c ∷ s) = pick (crlf (lastOf t) c) (ending (butLast t) (goOn [] s)) (goOn (t ++ (c ∷ [])) s)
+goOn t (c ∷ s) = cond (crlf (lastOf t) c) (ending (butLast t) (goOn [] s)) (goOn (t ++ (c ∷ [])) s)
 
 -- how many characters stand before the LF that ends the record, the character before them being p; all of them where none ends it
 unfoldable pub endIn : ℕ → List ℕ → ℕ
 endIn p [] = 0
-endIn p (c ∷ s) = pick (crlf p c) 0 (suc (endIn c s))
+endIn p (c ∷ s) = cond (crlf p c) 0 (suc (endIn c s))
 
 -- 6 and 8 digits, 9 digits with a point and three decimals, 6 digits, three spaces and the line feed
 abbrev pub longestLine : ℕ
@@ -44,14 +44,14 @@ after k l r = record { taken = k + r .taken; written = l ++ r .written; held = r
 unfoldable pub run : ℕ → List ℕ → List ℕ → Run
 run room t [] = stopped t
 run room t (c ∷ s) =
-    pick (ltb room longestLine) (stopped t)
-    (pick (crlf (lastOf t) c)
+    cond (ltb room longestLine) (stopped t)
+    (cond (crlf (lastOf t) c)
     (after 1 (lineOf (butLast t)) (run (room - length (lineOf (butLast t))) [] s))
     (after 1 [] (run room (t ++ (c ∷ [])) s)))
 
 -- finishing: the text held is the last record unless it is empty
 unfoldable pub lastLine : ℕ → List ℕ → List ℕ
-lastLine room t = pick (ltb room longestLine) [] (linesOf (unlessEmpty t))
+lastLine room t = cond (ltb room longestLine) [] (linesOf (unlessEmpty t))
 
 -- a record of 64 characters and CR LF
 abbrev pub keptMost : ℕ
@@ -59,7 +59,7 @@ keptMost = 66
 
 -- of a longer text the first 65 characters and the last are kept: enough to refuse it, and to see that a CR LF ends it
 unfoldable pub shrunk : List ℕ → List ℕ
-shrunk t = pick (leb (length t) keptMost) t (take 65 t ++ (lastOf t ∷ []))
+shrunk t = cond (leb (length t) keptMost) t (take 65 t ++ (lastOf t ∷ []))
 
 abbrev pub textOf : ListMachine → List ℕ
 textOf m = take (m .len) (m .bytes)

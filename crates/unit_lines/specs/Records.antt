@@ -1,16 +1,17 @@
 -- The unit list of an input: its records and their lines (document 01, "Record 730"). Assumes nothing.
 use Prim.Native.Nat.{ℕ}
-use mathlib.Core.Bool.{Bool, _&&_}
+use mathlib.Core.Bool.{Bool, cond, _&&_}
 use mathlib.Core.List.{List, [], _∷_, _++_}
 use lib.Dec.{eqb}
 use Rattle.records.specs.File730.{reading}
-use Rattle.unit_line.specs.Line.{pick, lineFeed, line}
+use Rattle.decimals.specs.Decimal.{line-feed}
+use Rattle.unit_line.specs.Line.{line}
 
 abbrev pub carriageReturn : ℕ
 carriageReturn = 13
 
 abbrev pub crlf : ℕ → ℕ → Bool
-crlf c d = eqb c carriageReturn && eqb d lineFeed
+crlf c d = eqb c carriageReturn && eqb d line-feed
 
 -- the texts that stand before a CR LF, and the text after the last one
 pub record Parts : Type 0 where
@@ -29,7 +30,7 @@ onto t (r ∷ rs) rest = record { ended = (t ++ r) ∷ rs; rest = rest }
 unfoldable pub parts : List ℕ → Parts
 parts [] = record { ended = []; rest = [] }
 parts (c ∷ []) = record { ended = []; rest = c ∷ [] }
-parts (c ∷ d ∷ s) = pick (crlf c d) (ending [] (parts s)) (onto (c ∷ []) (parts (d ∷ s) .ended) (parts (d ∷ s) .rest))
+parts (c ∷ d ∷ s) = cond (crlf c d) (ending [] (parts s)) (onto (c ∷ []) (parts (d ∷ s) .ended) (parts (d ∷ s) .rest))
 
 -- a last one without CR LF is treated alike unless it is empty
 abbrev pub unlessEmpty : List ℕ → List (List ℕ)

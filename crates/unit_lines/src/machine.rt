@@ -4,7 +4,7 @@ ghost use mathlib.Core.List.{[]};
 ghost use Prim.Native.Nat.{_+_, _-_, _≤_, _<_};
 ghost use lib.ListN.{length, drop};
 ghost use lib.Dec.{leb};
-ghost use Rattle.unit_line.specs.Put.{Put};
+ghost use Rattle.decimals.specs.Put.{Put};
 ghost use Rattle.unit_lines.specs.Records.{crlf, lineOf};
 ghost use Rattle.unit_lines.specs.Machine.{longestLine, butLast, endIn, run, keep, textOf};
 ghost use Rattle.unit_lines.specs.Feeding.{Feeds, Finishes, Moves};
@@ -13,7 +13,7 @@ use crate::text::grown;
 use crate::text::last_of;
 use crate::text::length_of;
 use crate::text::no_text;
-use unit_line::LINE_FEED;
+use decimals::LINE_FEED;
 use unit_line::put_line;
 
 const CARRIAGE_RETURN: u8 = b'\r';

@@ -7,7 +7,8 @@ use Rattle.records.specs.Ascii.{ascii}
 use Rattle.records.specs.Digits.{digits}
 use Rattle.records.specs.File730.{reading}
 use Rattle.records.specs.Layout.{every, values, numbers, scan}
-use Rattle.unit_line.specs.Line.{decimal, decimals, amount, line}
+use Rattle.decimals.specs.Decimal.{decimal, decimals, field}
+use Rattle.unit_line.specs.Line.{amount, line}
 use Rattle.unit_lines.specs.Records.{parts, recordsOf, lineOf, linesOf, unitList}
 
 -- HPK 216267, 20,000 DR (004): 0730, 0, 1850, 000001, 00216267, 000000020000, 0002, 000303 and 19 spaces, run together
@@ -27,40 +28,40 @@ refused201 = ascii "refused 201" ++ (10 ∷ [])
 
 -- document 01's example
 one-record : unitList (haldol ++ (13 ∷ 10 ∷ [])) ≡ haldolLine
-unfolding unitList recordsOf parts linesOf lineOf reading scan every values numbers line decimal decimals amount digits haldol colecalciferol haldolLine refused201
+unfolding unitList recordsOf parts linesOf lineOf reading scan every values numbers line decimal decimals field amount digits haldol colecalciferol haldolLine refused201
 one-record = refl
 
 -- one line for each
 two-records : unitList (haldol ++ (13 ∷ 10 ∷ (colecalciferol ++ (13 ∷ 10 ∷ [])))) ≡ haldolLine ++ (ascii "3 53015 0.010 229" ++ (10 ∷ []))
-unfolding unitList recordsOf parts linesOf lineOf reading scan every values numbers line decimal decimals amount digits haldol colecalciferol haldolLine refused201
+unfolding unitList recordsOf parts linesOf lineOf reading scan every values numbers line decimal decimals field amount digits haldol colecalciferol haldolLine refused201
 two-records = refl
 
 -- an empty rest is no record
 no-record : unitList [] ≡ []
-unfolding unitList recordsOf parts linesOf lineOf reading scan every values numbers line decimal decimals amount digits haldol colecalciferol haldolLine refused201
+unfolding unitList recordsOf parts linesOf lineOf reading scan every values numbers line decimal decimals field amount digits haldol colecalciferol haldolLine refused201
 no-record = refl
 
 -- an empty record before CR LF is refused
 empty-record : unitList (13 ∷ 10 ∷ []) ≡ refused201
-unfolding unitList recordsOf parts linesOf lineOf reading scan every values numbers line decimal decimals amount digits haldol colecalciferol haldolLine refused201
+unfolding unitList recordsOf parts linesOf lineOf reading scan every values numbers line decimal decimals field amount digits haldol colecalciferol haldolLine refused201
 empty-record = refl
 
 -- a last one without CR LF
 last-record : unitList haldol ≡ haldolLine
-unfolding unitList recordsOf parts linesOf lineOf reading scan every values numbers line decimal decimals amount digits haldol colecalciferol haldolLine refused201
+unfolding unitList recordsOf parts linesOf lineOf reading scan every values numbers line decimal decimals field amount digits haldol colecalciferol haldolLine refused201
 last-record = refl
 
 -- a LF alone ends nothing
 lone-feed : unitList (haldol ++ (10 ∷ haldol)) ≡ refused201
-unfolding unitList recordsOf parts linesOf lineOf reading scan every values numbers line decimal decimals amount digits haldol colecalciferol haldolLine refused201
+unfolding unitList recordsOf parts linesOf lineOf reading scan every values numbers line decimal decimals field amount digits haldol colecalciferol haldolLine refused201
 lone-feed = refl
 
 -- nor does a CR alone
 lone-return : unitList (haldol ++ (13 ∷ [])) ≡ refused201
-unfolding unitList recordsOf parts linesOf lineOf reading scan every values numbers line decimal decimals amount digits haldol colecalciferol haldolLine refused201
+unfolding unitList recordsOf parts linesOf lineOf reading scan every values numbers line decimal decimals field amount digits haldol colecalciferol haldolLine refused201
 lone-return = refl
 
 -- CR CR LF ends a record whose last character is CR
 two-returns : unitList (haldol ++ (13 ∷ 13 ∷ 10 ∷ [])) ≡ refused201
-unfolding unitList recordsOf parts linesOf lineOf reading scan every values numbers line decimal decimals amount digits haldol colecalciferol haldolLine refused201
+unfolding unitList recordsOf parts linesOf lineOf reading scan every values numbers line decimal decimals field amount digits haldol colecalciferol haldolLine refused201
 two-returns = refl
