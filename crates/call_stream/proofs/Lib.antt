@@ -1,0 +1,4 @@
+pub mod Finding
+pub mod Lining
+pub mod Parts
+pub mod Taking

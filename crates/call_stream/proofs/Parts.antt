@@ -1,0 +1,47 @@
+-- The bytes of a call behind its numbers, and what a writer leaves there. Assumes nothing.
+use Prim.Native.Nat.{ℕ, _+_, _-_, _≤_}
+use mathlib.Core.List.{List, _++_}
+use mathlib.Core.Path.{_≡_, ap, _∙_}
+use native.Mathlib.Omega.{arith}
+use lib.ListN.{length, take, drop, length-take, length-drop}
+use lib.Seq.{length-take-le, take-at, drop-at}
+use Rattle.records.specs.Digits.{chars}
+use Rattle.records.specs.File730.{writing, leaves}
+use Rattle.records.specs.Numbers.{writeNumber}
+use Rattle.records.specs.declared.Record730.{Record730}
+use Rattle.records.specs.declared.Written.{Written}
+use Rattle.records.proofs.Chars.{length-chars}
+use Rattle.call_stream.specs.Calls.{front-730}
+use Rattle.call_stream.specs.Lines.{write-line, place-of, record-of, written, line-of, after}
+use Rattle.call_stream.specs.declared.calls.Found.the-variants.{Write730}
+
+-- from a place to an end
+pub part-of : (s : List ℕ) (at n : ℕ) → take (at + n - at) (drop at s) ≡ chars s at n
+part-of s at n =
+    let e : at + n - at ≡ n = omega arith in
+    rw e
+
+-- the bytes put into the middle, found again
+middle : (s b : List ℕ) (at n : ℕ) → at + n ≤ length s → length b ≡ n → take n (drop at (take at s ++ (b ++ drop n (drop at s)))) ≡ b
+middle s b at n h e = rw (drop-at (take at s) (b ++ drop n (drop at s)) at (length-take-le at s (omega arith))) (take-at b (drop n (drop at s)) n e)
+
+module _ (s : List ℕ) (n : ℕ) (h : front-730 + n ≤ length s) (r : Record730) (place : ℕ) (b : List ℕ) (of : r ≡ record-of s) (at : place ≡ place-of s) where
+  left : b ≡ leaves r place (take (front-730 + n - front-730) (drop front-730 s)) → b ≡ written s n
+  left e = e ∙ rw (of, at, part-of s front-730 n)
+
+  pub line-left : (w : Written) (number : ℕ) → w ≡ writing r place (length (take (front-730 + n - front-730) (drop front-730 s))) →
+      b ≡ leaves r place (take (front-730 + n - front-730) (drop front-730 s)) → length b ≡ length (take (front-730 + n - front-730) (drop front-730 s)) → number ≡ writeNumber w →
+      write-line number (take (front-730 + n - front-730) (drop front-730 (take front-730 s ++ (b ++ drop (front-730 + n - front-730) (drop front-730 s))))) ≡ line-of (Write730 n) s
+  unfolding line-of
+  line-left w number answered e long said =
+      let k : front-730 + n - front-730 ≡ n = omega arith in
+      let p : length (chars s front-730 n) ≡ n = length-chars s front-730 n h in
+      let q : length b ≡ n = rw k at long ∙ p in
+      let v : w ≡ writing (record-of s) (place-of s) n = rw (k, p, of, at) at answered in
+      rw (k, middle s b front-730 n h q, said, v, left e)
+
+  pub call-left : b ≡ leaves r place (take (front-730 + n - front-730) (drop front-730 s)) → take front-730 s ++ (b ++ drop (front-730 + n - front-730) (drop front-730 s)) ≡ after (Write730 n) s
+  unfolding after
+  call-left e =
+      let k : front-730 + n - front-730 ≡ n = omega arith in
+      rw (left e, k)

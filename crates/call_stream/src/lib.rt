@@ -1,0 +1,67 @@
+// A stream of calls of the readers and writers of records: from a call's bytes to the line of its answer. A file's calls are a module and its cases of `Found`.
+ghost use Prim.Native.Nat.{_+_, _≤_};
+ghost use lib.ListN.{length};
+ghost use Rattle.decimals.specs.Put.{Put};
+ghost use Rattle.call_stream.specs.Lines.{last-line};
+ghost use Rattle.call_stream.specs.Takes.{longest-line, Takes};
+
+pub mod calls;
+mod file_730;
+mod hex;
+mod lines;
+
+use crate::calls::FRONT;
+use crate::calls::FRONT_730;
+use crate::calls::Found;
+use crate::calls::find;
+use crate::file_730::put_read_730;
+use crate::file_730::put_write_730;
+use decimals::put_text;
+
+// Room for any call, and for any line.
+pub const LONGEST_CALL: usize = 4_140;
+
+pub const LONGEST_LINE: usize = 8_214;
+
+// How many bytes a call has, and the place behind its line.
+pub struct Spans {
+    pub call: usize,
+    pub end: usize,
+}
+
+// Of bytes gathered so far: a whole call and its line, or how many bytes are needed, or no call and the line that says so.
+pub enum Taken {
+    Answered(Spans),
+    More(usize),
+    Broken(usize),
+}
+
+pub fn take_call(s: &mut [u8], out: &mut [u8], at: usize) -> Taken
+    requires { ⌜ at + longest-line ≤ length (now out) ⌝ }
+    ensures { λ r. ⌜ Takes (now (s .entry)) (now (out .entry)) at (now (s .exit)) (now (out .exit)) r ⌝ }
+{
+    let found = find(s);
+    match found {
+        Found::Read730(n) => Taken::Answered(Spans {
+            call: FRONT + n,
+            end: put_read_730(s, n, out, at),
+        }),
+        Found::Write730(n) => Taken::Answered(Spans {
+            call: FRONT_730 + n,
+            end: put_write_730(s, n, out, at),
+        }),
+        Found::More(n) => Taken::More(n),
+        Found::Broken => Taken::Broken(put_text(out, at, b"broken\n")),
+    }
+}
+
+// The stream has ended, and these bytes are left.
+pub fn finish(s: &[u8], out: &mut [u8], at: usize) -> usize
+    requires { ⌜ at + longest-line ≤ length (now out) ⌝ }
+    ensures { λ r. ⌜ Put (now (out .entry)) at (last-line (now (s .entry))) (now (out .exit)) r × (r ≤ at + longest-line) ⌝ }
+{
+    if s.len() == 0 {
+        return at;
+    }
+    put_text(out, at, b"broken\n")
+}
