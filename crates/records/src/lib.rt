@@ -14,7 +14,7 @@ use crate::parts::has_room;
 use crate::parts::is_text;
 use crate::parts::number_at;
 use crate::parts::put_digits;
-use crate::parts::put_text;
+use decimals::put_text;
 
 // CDHOEV in thousandths.
 pub struct Record730 {

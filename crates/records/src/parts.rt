@@ -63,18 +63,6 @@ pub fn has_room(room: usize, at: usize, width: usize) -> bool
     at <= room - width
 }
 
-// The text at the place. No other byte changes.
-pub fn put_text(buf: &mut [u8], at: usize, text: &[u8])
-    requires { ⌜ at + length (now text) ≤ length (now buf) ⌝ }
-    ensures { λ _. ⌜ now (buf .exit) ≡ sets (now (buf .entry)) at (now (text .entry)) ⌝ }
-{
-    let mut put: usize = 0;
-    while put < text.len() {
-        buf[at + put] = text[put];
-        put += 1;
-    }
-}
-
 // The number's last digits at the place, zeros in front. No other byte changes.
 pub fn put_digits(buf: &mut [u8], at: usize, width: usize, n: u64)
     requires { ⌜ at + width ≤ length (now buf) ⌝ }

@@ -49,7 +49,7 @@ returns-5 c = rw (field-digits _ _ (mutation-read (c .before .before .before .be
 
 returns-6 : tie.Need-returns-6
 unfolding numbers every
-returns-6 c = rw (field-digits _ _ (mutation-read (c .before .before .before .before .before .before .before .before .before .before .before .before .before .before .before .before .before)), field-digits _ _ (srtcde-read (c .before .before .before .before .before .before .before .before .before .before .before .before .before)), field-digits _ _ (code-read (c .before .before .before .before .before .before .before .before .before)), field-digits _ _ (cdhoev-read (c .before .before .before .before .before)), field-digits _ _ (cdeenh-read (c .before)), field-said _ _ (mutation-read (c .before .before .before .before .before .before .before .before .before .before .before .before .before .before .before .before .before)), lt-leb _ _ (c .if1 .taken))
+returns-6 c = rw (field-digits _ _ (mutation-read (c .before .before .before .before .before .before .before .before .before .before .before .before .before .before .before .before .before)), field-digits _ _ (srtcde-read (c .before .before .before .before .before .before .before .before .before .before .before .before .before)), field-digits _ _ (code-read (c .before .before .before .before .before .before .before .before .before)), field-digits _ _ (cdhoev-read (c .before .before .before .before .before)), field-digits _ _ (cdeenh-read (c .before)), field-said _ _ (mutation-read (c .before .before .before .before .before .before .before .before .before .before .before .before .before .before .before .before .before)), lt-leb (c .before .before .before .before .before .before .before .before .before .before .before .before .before .before .before .before .before .before .mutation .given .0 .0) 3 (omega arith))
 
 cast-t20 : tie.Need-cast-t20
 cast-t20 c = omega (arith, field-below _ _ (srtcde-read (c .before .before .before .before .before .before .before .before .before .before .before .before .before)) 6 (length-chars (now (c .before .before .before .before .before .before .before .before .before .before .before .before .before .before .before .before .before .before .before .before .before .before .args .s)) 9 6 (omega arith)))
@@ -62,7 +62,7 @@ cast-t22 c = omega (arith, field-below _ _ (cdeenh-read (c .before)) 6 (length-c
 
 returns-7 : tie.Need-returns-7
 unfolding numbers every values
-returns-7 c = rw (field-digits _ _ (mutation-read (c .before .before .before .before .before .before .before .before .before .before .before .before .before .before .before .before .before)), field-digits _ _ (srtcde-read (c .before .before .before .before .before .before .before .before .before .before .before .before .before)), field-digits _ _ (code-read (c .before .before .before .before .before .before .before .before .before)), field-digits _ _ (cdhoev-read (c .before .before .before .before .before)), field-digits _ _ (cdeenh-read (c .before)), field-said _ _ (mutation-read (c .before .before .before .before .before .before .before .before .before .before .before .before .before .before .before .before .before)), field-said _ _ (srtcde-read (c .before .before .before .before .before .before .before .before .before .before .before .before .before)), field-said _ _ (code-read (c .before .before .before .before .before .before .before .before .before)), field-said _ _ (cdhoev-read (c .before .before .before .before .before)), field-said _ _ (cdeenh-read (c .before)), le-leb _ _ (c .if1 .left))
+returns-7 c = rw (field-digits _ _ (mutation-read (c .before .before .before .before .before .before .before .before .before .before .before .before .before .before .before .before .before)), field-digits _ _ (srtcde-read (c .before .before .before .before .before .before .before .before .before .before .before .before .before)), field-digits _ _ (code-read (c .before .before .before .before .before .before .before .before .before)), field-digits _ _ (cdhoev-read (c .before .before .before .before .before)), field-digits _ _ (cdeenh-read (c .before)), field-said _ _ (mutation-read (c .before .before .before .before .before .before .before .before .before .before .before .before .before .before .before .before .before)), field-said _ _ (srtcde-read (c .before .before .before .before .before .before .before .before .before .before .before .before .before)), field-said _ _ (code-read (c .before .before .before .before .before .before .before .before .before)), field-said _ _ (cdhoev-read (c .before .before .before .before .before)), field-said _ _ (cdeenh-read (c .before)), le-leb (c .before .before .before .before .before .before .before .before .before .before .before .before .before .before .before .before .before .before .mutation .given .0 .0) 3 (omega arith))
 
 pub numbers-730-spec : {M : Type 1} → statement M
 numbers-730-spec =
