@@ -8,7 +8,7 @@ use lib.ListN.{length, getD, set, drop, drop-of-length-le}
 use lib.Seq.{sets, drop-cons}
 use Rattle.decimals.specs.Decimal.{space, line-feed, field}
 use Rattle.decimals.specs.Put.{Put}
-use Rattle.records.specs.Numbers.{readRefusal, readNumbers}
+use Rattle.records.specs.Numbers.{read-refusal, says, read-numbers}
 use Rattle.records.specs.declared.Read730.the-variants.{Refused}
 use Rattle.records.specs.declared.ReadRefusal.{ReadRefusal}
 use Rattle.records.specs.declared.ReadRefusal.the-variants.{Length, Fixed, Digit, Mutation}
@@ -41,7 +41,7 @@ unfolding spaced
 six a b c d e f = simp append-assoc
 
 -- a refusal's line is its number alone
-pub refused-line : (e : ReadRefusal) → read-line (readNumbers (Refused e)) ≡ field (readRefusal e) line-feed
+pub refused-line : (e : ReadRefusal) → read-line (read-numbers (says (Refused e))) ≡ field (read-refusal e) line-feed
 unfolding read-line spaced
 refused-line Length = refl
 refused-line Fixed = refl

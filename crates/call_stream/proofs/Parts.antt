@@ -7,9 +7,7 @@ use lib.ListN.{length, take, drop, length-take, length-drop}
 use lib.Seq.{length-take-le, take-at, drop-at}
 use Rattle.records.specs.Digits.{chars}
 use Rattle.records.specs.File730.{writing, leaves}
-use Rattle.records.specs.Numbers.{writeNumber}
 use Rattle.records.specs.declared.Record730.{Record730}
-use Rattle.records.specs.declared.Written.{Written}
 use Rattle.records.proofs.Chars.{length-chars}
 use Rattle.call_stream.specs.Calls.{front-730}
 use Rattle.call_stream.specs.Lines.{write-line, place-of, record-of, written, line-of, after}
@@ -29,16 +27,16 @@ module _ (s : List ℕ) (n : ℕ) (h : front-730 + n ≤ length s) (r : Record73
   left : b ≡ leaves r place (take (front-730 + n - front-730) (drop front-730 s)) → b ≡ written s n
   left e = e ∙ rw (of, at, part-of s front-730 n)
 
-  pub line-left : (w : Written) (number : ℕ) → w ≡ writing r place (length (take (front-730 + n - front-730) (drop front-730 s))) →
-      b ≡ leaves r place (take (front-730 + n - front-730) (drop front-730 s)) → length b ≡ length (take (front-730 + n - front-730) (drop front-730 s)) → number ≡ writeNumber w →
+  pub line-left : (number : ℕ) → number ≡ writing r place (length (take (front-730 + n - front-730) (drop front-730 s))) →
+      b ≡ leaves r place (take (front-730 + n - front-730) (drop front-730 s)) → length b ≡ length (take (front-730 + n - front-730) (drop front-730 s)) →
       write-line number (take (front-730 + n - front-730) (drop front-730 (take front-730 s ++ (b ++ drop (front-730 + n - front-730) (drop front-730 s))))) ≡ line-of (Write730 n) s
   unfolding line-of
-  line-left w number answered e long said =
+  line-left number answered e long =
       let k : front-730 + n - front-730 ≡ n = omega arith in
       let p : length (chars s front-730 n) ≡ n = length-chars s front-730 n h in
       let q : length b ≡ n = rw k at long ∙ p in
-      let v : w ≡ writing (record-of s) (place-of s) n = rw (k, p, of, at) at answered in
-      rw (k, middle s b front-730 n h q, said, v, left e)
+      let v : number ≡ writing (record-of s) (place-of s) n = rw (k, p, of, at) at answered in
+      rw (k, middle s b front-730 n h q, v, left e)
 
   pub call-left : b ≡ leaves r place (take (front-730 + n - front-730) (drop front-730 s)) → take front-730 s ++ (b ++ drop (front-730 + n - front-730) (drop front-730 s)) ≡ after (Write730 n) s
   unfolding after

@@ -9,7 +9,7 @@ use Rattle.decimals.specs.Decimal.{space, line-feed, field}
 use Rattle.records.specs.Ascii.{ascii}
 use Rattle.records.specs.Digits.{chars}
 use Rattle.records.specs.File730.{reading, writing, leaves}
-use Rattle.records.specs.Numbers.{readNumbers, writeNumber}
+use Rattle.records.specs.Numbers.{read-numbers}
 use Rattle.records.specs.declared.Record730.{Record730}
 use Rattle.call_stream.specs.Calls.{front, front-730, found}
 use Rattle.call_stream.specs.declared.calls.Found.{Found}
@@ -53,8 +53,8 @@ abbrev pub written : List ℕ → ℕ → List ℕ
 written s n = leaves (record-of s) (place-of s) (chars s front-730 n)
 
 unfoldable pub line-of : Found → List ℕ → List ℕ
-line-of (Read730 n) s = read-line (readNumbers (reading (chars s front n)))
-line-of (Write730 n) s = write-line (writeNumber (writing (record-of s) (place-of s) n)) (written s n)
+line-of (Read730 n) s = read-line (read-numbers (reading (chars s front n)))
+line-of (Write730 n) s = write-line (writing (record-of s) (place-of s) n) (written s n)
 line-of (More n) s = []
 line-of Broken s = broken-line
 

@@ -3,7 +3,7 @@ ghost use mathlib.Core.Path.{_≡_};
 ghost use Prim.Native.Nat.{_+_, _≤_};
 ghost use lib.ListN.{length};
 ghost use Rattle.decimals.specs.Put.{Put};
-ghost use Rattle.records.specs.Numbers.{readNumbers};
+ghost use Rattle.records.specs.Numbers.{says, read-numbers};
 ghost use Rattle.call_stream.specs.Calls.{front, front-730, most-bytes};
 ghost use Rattle.call_stream.specs.Lines.{read-line, record-of, line-of, after};
 ghost use Rattle.call_stream.specs.Takes.{longest-line};
@@ -37,7 +37,7 @@ const CDEENH: usize = 40;
 
 fn put_record(out: &mut [u8], at: usize, r: Record730) -> usize
     requires { ⌜ at + longest-line ≤ length (now out) ⌝ }
-    ensures { λ e. ⌜ Put (now (out .entry)) at (read-line (readNumbers (Read730.Record r))) (now (out .exit)) e × (e ≤ at + longest-line) ⌝ }
+    ensures { λ e. ⌜ Put (now (out .entry)) at (read-line (read-numbers (says (Read730.Record r)))) (now (out .exit)) e × (e ≤ at + longest-line) ⌝ }
 {
     let half = put_three(out, at, 0, r.mutation as u64, r.srtcde as u64, SPACE);
     put_three(
@@ -52,7 +52,7 @@ fn put_record(out: &mut [u8], at: usize, r: Record730) -> usize
 
 fn put_read(out: &mut [u8], at: usize, v: Read730) -> usize
     requires { ⌜ at + longest-line ≤ length (now out) ⌝ }
-    ensures { λ r. ⌜ Put (now (out .entry)) at (read-line (readNumbers v)) (now (out .exit)) r × (r ≤ at + longest-line) ⌝ }
+    ensures { λ r. ⌜ Put (now (out .entry)) at (read-line (read-numbers (says v))) (now (out .exit)) r × (r ≤ at + longest-line) ⌝ }
 {
     match v {
         Read730::Record(r) => put_record(out, at, r),

@@ -5,7 +5,7 @@ ghost use Prim.Native.Nat.{_+_, _≤_};
 ghost use lib.ListN.{length};
 ghost use Rattle.decimals.specs.Decimal.{space, field};
 ghost use Rattle.decimals.specs.Put.{Put};
-ghost use Rattle.records.specs.Numbers.{readRefusal, writeNumber};
+ghost use Rattle.records.specs.Numbers.{read-refusal, write-number};
 ghost use Rattle.call_stream.specs.Calls.{most-bytes};
 ghost use Rattle.call_stream.specs.Lines.{write-line};
 ghost use Rattle.call_stream.specs.Takes.{longest-line};
@@ -17,7 +17,7 @@ use records::ReadRefusal;
 use records::Written;
 
 pub fn read_number(e: ReadRefusal) -> u64
-    ensures { λ r. ⌜ r ≡ readRefusal e ⌝ }
+    ensures { λ r. ⌜ r ≡ read-refusal e ⌝ }
 {
     match e {
         ReadRefusal::Length => 201,
@@ -28,7 +28,7 @@ pub fn read_number(e: ReadRefusal) -> u64
 }
 
 pub fn write_number(w: Written) -> u64
-    ensures { λ r. ⌜ r ≡ writeNumber w ⌝ }
+    ensures { λ r. ⌜ r ≡ write-number w ⌝ }
 {
     match w {
         Written::Done => 0,

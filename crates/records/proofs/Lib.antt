@@ -12,4 +12,5 @@ pub mod WritesBack
 pub mod SameSets
 pub mod RefusalsLeave
 pub mod Bounds
+pub mod OneResult
 pub mod Examples

@@ -10,24 +10,23 @@ use lib.Seq.{take-at, drop-at, length-take-le}
 use lib.Dec.{leb}
 use Rattle.records.specs.Digits.{chars, unless}
 use Rattle.records.specs.Layout.{Part, Values, total, fits, spell, answer, leaving}
-use Rattle.records.specs.declared.Written.the-variants.{Done, TooWide, NoRoom}
 use Rattle.records.proofs.Spelling.{length-spell}
 
-split : (b c : Bool) → unless b TooWide (unless c NoRoom Done) ≡ Done → (b ≡ true) × (c ≡ true)
+split : (b c : Bool) → _≡_ {A = ℕ} (unless b 205 (unless c 206 0)) 0 → (b ≡ true) × (c ≡ true)
 split true true e = (refl, refl)
-split true false e = absurd (let z : _≡_ {A = ℕ} 0 1 = cc in let y : ⊥ = omega arith in y)
-split false c e = absurd (let z : _≡_ {A = ℕ} 0 1 = cc in let y : ⊥ = omega arith in y)
+split true false e = absurd (let y : ⊥ = omega arith in y)
+split false c e = absurd (let y : ⊥ = omega arith in y)
 
 module _ (ps : List Part) (v : Values ps) (at : ℕ) (old : List ℕ) where
-  pub too-wide-leaves : answer ps v at (length old) ≡ TooWide → leaving ps v at old ≡ old
+  pub too-wide-leaves : answer ps v at (length old) ≡ 205 → leaving ps v at old ≡ old
   unfolding leaving
   too-wide-leaves e = rw e
 
-  pub no-room-leaves : answer ps v at (length old) ≡ NoRoom → leaving ps v at old ≡ old
+  pub no-room-leaves : answer ps v at (length old) ≡ 206 → leaving ps v at old ≡ old
   unfolding leaving
   no-room-leaves e = rw e
 
-module _ (ps : List Part) (v : Values ps) (at : ℕ) (old : List ℕ) (done : answer ps v at (length old) ≡ Done) where
+module _ (ps : List Part) (v : Values ps) (at : ℕ) (old : List ℕ) (done : answer ps v at (length old) ≡ 0) where
   pub done-fits : fits ps v ≡ true
   unfolding answer
   done-fits = split (fits ps v) (leb (at + total ps) (length old)) done .0

@@ -6,9 +6,10 @@ use native.Mathlib.Omega.{arith}
 use native.Mathlib.Nat.{add-zero}
 use lib.ListN.{length, take, drop, length-append}
 use lib.Seq.{sets, sets-eq}
+use Rattle.decimals.proofs.Puts.{sets-append}
 use Rattle.records.specs.Layout.{Part, text, mutation, number, Value, Values, width, total, spelt, spell}
 use Rattle.records.specs.Puts.{puts}
-use Rattle.records.proofs.Stores.{length-digits, sets-append}
+use Rattle.records.proofs.Stores.{length-digits}
 
 pub length-spelt : (p : Part) (v : Value p) → length (spelt p v) ≡ width p
 length-spelt (text t) v = refl

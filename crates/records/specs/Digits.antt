@@ -1,6 +1,6 @@
 -- Characters at a place, decimal digits with zeros in front, and the number that digits say. A character is a byte: 48 is 0, and 57 is 9. Assumes nothing.
 use Prim.Native.Nat.{ℕ, zero, suc, _+_, _-_, _*_, _/_, _%_}
-use mathlib.Core.Bool.{Bool, true, false, _&&_}
+use mathlib.Core.Bool.{Bool, true, false, cond, _&&_}
 use mathlib.Core.List.{List, [], _∷_, _++_}
 use lib.ListN.{take, drop}
 use lib.Dec.{leb, eqb}
@@ -13,8 +13,7 @@ chars s at k = take k (drop at s)
 
 -- the refusal unless the test is passed, and then what follows
 abbrev pub unless : {A : Type 0} → Bool → A → A → A
-unless true refusal next = next
-unless false refusal next = refusal
+unless passed refusal next = cond passed next refusal
 
 abbrev pub same : List ℕ → List ℕ → Bool
 same [] [] = true
@@ -27,9 +26,9 @@ unfoldable pub digits : ℕ → ℕ → List ℕ
 digits zero n = []
 digits (suc k) n = digits k (n / 10) ++ ((48 + n % 10) ∷ [])
 
-abbrev pub digitsOnly : List ℕ → Bool
-digitsOnly [] = true
-digitsOnly (d ∷ l) = (leb 48 d && leb d 57) && digitsOnly l
+abbrev pub digits-only : List ℕ → Bool
+digits-only [] = true
+digits-only (d ∷ l) = (leb 48 d && leb d 57) && digits-only l
 
 -- the number that digits say, after the number a
 abbrev pub horner : ℕ → List ℕ → ℕ
@@ -37,5 +36,5 @@ horner a [] = a
 horner a (d ∷ l) = horner (a * 10 + (d - 48)) l
 
 -- the number of a field, where it has digits only
-unfoldable pub fieldOf : List ℕ → Field
-fieldOf l = unless (digitsOnly l) NoDigits (Number (horner 0 l))
+unfoldable pub field-of : List ℕ → Field
+field-of l = unless (digits-only l) NoDigits (Number (horner 0 l))

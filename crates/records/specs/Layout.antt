@@ -1,14 +1,10 @@
--- A file's record as a list of parts, and what reading and writing such a record mean, whatever the file. Assumes nothing.
-use Prim.Native.Nat.{ℕ, _+_, _^_}
+-- A file's record as a list of parts, and what reading and writing such a record mean, whatever the file, in document 01's numbers. Assumes nothing.
+use Prim.Native.Nat.{ℕ, zero, suc, _+_, _^_}
 use mathlib.Core.Bool.{Bool, true, _&&_}
 use mathlib.Core.List.{List, [], _∷_, _++_}
 use lib.ListN.{length, take, drop}
 use lib.Dec.{leb, ltb, eqb}
-use Rattle.records.specs.Digits.{chars, unless, same, digits, digitsOnly, horner}
-use Rattle.records.specs.declared.ReadRefusal.{ReadRefusal}
-use Rattle.records.specs.declared.ReadRefusal.the-variants.{Length, Fixed, Digit, Mutation}
-use Rattle.records.specs.declared.Written.{Written}
-use Rattle.records.specs.declared.Written.the-variants.{Done, TooWide, NoRoom}
+use Rattle.records.specs.Digits.{chars, unless, same, digits, digits-only, horner}
 
 -- fixed text; the mutation digit, 0 to 3; a number of so many digits
 pub data Part : Type 0 where
@@ -36,22 +32,22 @@ total [] = 0
 total (p ∷ ps) = width p + total ps
 
 -- 202: a fixed part differs
-abbrev pub fixedPart : Part → List ℕ → Bool
-fixedPart (text t) c = same t c
-fixedPart mutation c = true
-fixedPart (number k) c = true
+abbrev pub fixed-part : Part → List ℕ → Bool
+fixed-part (text t) c = same t c
+fixed-part mutation c = true
+fixed-part (number k) c = true
 
 -- 203: a digit is expected and absent
-abbrev pub digitPart : Part → List ℕ → Bool
-digitPart (text t) c = true
-digitPart mutation c = digitsOnly c
-digitPart (number k) c = digitsOnly c
+abbrev pub digit-part : Part → List ℕ → Bool
+digit-part (text t) c = true
+digit-part mutation c = digits-only c
+digit-part (number k) c = digits-only c
 
 -- 204: the mutation digit is above 3
-abbrev pub mutationPart : Part → List ℕ → Bool
-mutationPart (text t) c = true
-mutationPart mutation c = leb (horner 0 c) 3
-mutationPart (number k) c = true
+abbrev pub mutation-part : Part → List ℕ → Bool
+mutation-part (text t) c = true
+mutation-part mutation c = leb (horner 0 c) 3
+mutation-part (number k) c = true
 
 -- every part, from the place at on, passes the test
 unfoldable pub every : (Part → List ℕ → Bool) → List Part → ℕ → List ℕ → Bool
@@ -67,32 +63,37 @@ unfoldable pub values : (ps : List Part) → ℕ → List ℕ → Values ps
 values [] at s = tt
 values (p ∷ ps) at s = (value p (chars s at (width p)), values ps (at + width p) s)
 
-pub data Scanned (ps : List Part) : Type 0 where
-  said : Values ps → Scanned ps
-  refused : ReadRefusal → Scanned ps
+-- what was read, or the number of the refusal
+pub data Reading (A : Type 0) : Type 0 where
+  said : A → Reading A
+  refused : ℕ → Reading A
 
-unfoldable pub numbers : (ps : List Part) → List ℕ → Scanned ps
+abbrev pub read-by : {A B : Type 0} → (A → B) → Reading A → Reading B
+read-by f (said v) = said (f v)
+read-by f (refused n) = refused n
+
+unfoldable pub numbers : (ps : List Part) → List ℕ → Reading (Values ps)
 numbers ps s =
-    unless (every digitPart ps 0 s) (refused Digit)
-    (unless (every mutationPart ps 0 s) (refused Mutation)
+    unless (every digit-part ps 0 s) (refused 203)
+    (unless (every mutation-part ps 0 s) (refused 204)
     (said (values ps 0 s)))
 
 -- reading a record: the tests in document 01's order, all fixed parts before any digit
-unfoldable pub scan : (ps : List Part) → List ℕ → Scanned ps
+unfoldable pub scan : (ps : List Part) → List ℕ → Reading (Values ps)
 scan ps s =
-    unless (eqb (length s) (total ps)) (refused Length)
-    (unless (every fixedPart ps 0 s) (refused Fixed)
+    unless (eqb (length s) (total ps)) (refused 201)
+    (unless (every fixed-part ps 0 s) (refused 202)
     (numbers ps s))
 
 -- 205: a number is too wide, or the mutation digit above 3
-abbrev pub fitsPart : (p : Part) → Value p → Bool
-fitsPart (text t) v = true
-fitsPart mutation v = leb v 3
-fitsPart (number k) v = ltb v (10 ^ k)
+abbrev pub fits-part : (p : Part) → Value p → Bool
+fits-part (text t) v = true
+fits-part mutation v = leb v 3
+fits-part (number k) v = ltb v (10 ^ k)
 
 unfoldable pub fits : (ps : List Part) → Values ps → Bool
 fits [] v = true
-fits (p ∷ ps) v = fitsPart p (v .0) && fits ps (v .1)
+fits (p ∷ ps) v = fits-part p (v .0) && fits ps (v .1)
 
 abbrev pub spelt : (p : Part) → Value p → List ℕ
 spelt (text t) v = t
@@ -104,18 +105,17 @@ unfoldable pub spell : (ps : List Part) → Values ps → List ℕ
 spell [] v = []
 spell (p ∷ ps) v = spelt p (v .0) ++ spell ps (v .1)
 
--- the answer to writing at a place of a buffer with that room: 205 before 206
-unfoldable pub answer : (ps : List Part) → Values ps → ℕ → ℕ → Written
+-- the answer to writing at a place of a buffer with that room: 0 where it is done
+unfoldable pub answer : (ps : List Part) → Values ps → ℕ → ℕ → ℕ
 answer ps v at room =
-    unless (fits ps v) TooWide
-    (unless (leb (at + total ps) room) NoRoom
-    Done)
+    unless (fits ps v) 205
+    (unless (leb (at + total ps) room) 206
+    0)
 
 -- the buffer after that answer: the new characters at the place and nothing else touched, or all as it was
-abbrev pub after : Written → List ℕ → ℕ → List ℕ → List ℕ
-after Done old at new = take at old ++ (new ++ drop (at + length new) old)
-after TooWide old at new = old
-after NoRoom old at new = old
+abbrev pub after : ℕ → List ℕ → ℕ → List ℕ → List ℕ
+after zero old at new = take at old ++ (new ++ drop (at + length new) old)
+after (suc n) old at new = old
 
 -- what writing leaves in the buffer
 unfoldable pub leaving : (ps : List Part) → Values ps → ℕ → List ℕ → List ℕ

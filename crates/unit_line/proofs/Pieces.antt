@@ -8,10 +8,8 @@ use native.Mathlib.Omega.{arith}
 use Rattle.decimals.specs.Decimal.{space, line-feed, field}
 use Rattle.records.specs.Ascii.{ascii}
 use Rattle.records.specs.Digits.{digits}
-use Rattle.records.specs.Numbers.{readRefusal}
+use Rattle.records.specs.Layout.{said, refused}
 use Rattle.records.specs.declared.Record730.{Record730}
-use Rattle.records.specs.declared.Read730.the-variants.{Record, Refused}
-use Rattle.records.specs.declared.ReadRefusal.{ReadRefusal}
 use Rattle.unit_line.specs.Line.{point, amount, line}
 
 abbrev pub three-decimals : ℕ → List ℕ
@@ -24,19 +22,19 @@ amount-pieces n = refl
 pub length-amount : (n : ℕ) → length (amount n space) ≡ length (field (n / 1000) point) + 4
 length-amount n = rw (amount-pieces n) (length-append (field (n / 1000) point) (three-decimals (n % 1000)))
 
-pub row-pieces : (r : Record730) → line (Record r) ≡ field (r .srtcde) space ++ (field (r .code) space ++ (amount (r .cdhoev) space ++ field (r .cdeenh) line-feed))
+pub row-pieces : (r : Record730) → line (said r) ≡ field (r .srtcde) space ++ (field (r .code) space ++ (amount (r .cdhoev) space ++ field (r .cdeenh) line-feed))
 unfolding line
 row-pieces r = refl
 
-pub length-row : (r : Record730) → length (line (Record r)) ≡ length (field (r .srtcde) space) + (length (field (r .code) space) + (length (amount (r .cdhoev) space) + length (field (r .cdeenh) line-feed)))
+pub length-row : (r : Record730) → length (line (said r)) ≡ length (field (r .srtcde) space) + (length (field (r .code) space) + (length (amount (r .cdhoev) space) + length (field (r .cdeenh) line-feed)))
 length-row r = rw (row-pieces r, length-append (field (r .srtcde) space), length-append (field (r .code) space), length-append (amount (r .cdhoev) space))
 
-pub refused-pieces : (e : ReadRefusal) → line (Refused e) ≡ ascii "refused " ++ field (readRefusal e) line-feed
+pub refused-pieces : (n : ℕ) → line (refused n) ≡ ascii "refused " ++ field n line-feed
 unfolding line
-refused-pieces e = refl
+refused-pieces n = refl
 
-pub length-refused : (e : ReadRefusal) → length (line (Refused e)) ≡ 8 + length (field (readRefusal e) line-feed)
-length-refused e = rw (refused-pieces e) (length-append (ascii "refused ") (field (readRefusal e) line-feed))
+pub length-refused : (n : ℕ) → length (line (refused n)) ≡ 8 + length (field n line-feed)
+length-refused n = rw (refused-pieces n) (length-append (ascii "refused ") (field n line-feed))
 
 pub sets-four : (b : List ℕ) (i w x y z : ℕ) → set (set (set (set b i w) (i + 1) x) (i + 2) y) (i + 3) z ≡ sets b i (w ∷ x ∷ y ∷ z ∷ [])
 sets-four b i w x y z =

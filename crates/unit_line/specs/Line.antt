@@ -4,9 +4,8 @@ use mathlib.Core.List.{List, [], _∷_, _++_}
 use Rattle.decimals.specs.Decimal.{space, line-feed, field}
 use Rattle.records.specs.Ascii.{ascii}
 use Rattle.records.specs.Digits.{digits}
-use Rattle.records.specs.Numbers.{readRefusal}
-use Rattle.records.specs.declared.Read730.{Read730}
-use Rattle.records.specs.declared.Read730.the-variants.{Record, Refused}
+use Rattle.records.specs.Layout.{Reading, said, refused}
+use Rattle.records.specs.declared.Record730.{Record730}
 
 abbrev pub point : ℕ
 point = 46
@@ -16,6 +15,6 @@ unfoldable pub amount : ℕ → ℕ → List ℕ
 amount n behind = field (n / 1000) point ++ (digits 3 (n % 1000) ++ (behind ∷ []))
 
 -- SRTCDE, CODE, amount, unit with one space between, or the word refused, a space and the number; ended by a line feed
-unfoldable pub line : Read730 → List ℕ
-line (Record r) = field (r .srtcde) space ++ (field (r .code) space ++ (amount (r .cdhoev) space ++ field (r .cdeenh) line-feed))
-line (Refused e) = ascii "refused " ++ field (readRefusal e) line-feed
+unfoldable pub line : Reading Record730 → List ℕ
+line (said r) = field (r .srtcde) space ++ (field (r .code) space ++ (amount (r .cdhoev) space ++ field (r .cdeenh) line-feed))
+line (refused n) = ascii "refused " ++ field n line-feed

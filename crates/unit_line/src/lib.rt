@@ -4,7 +4,8 @@ ghost use Prim.Native.Nat.{_+_, _≤_};
 ghost use lib.ListN.{length};
 ghost use Rattle.decimals.specs.Decimal.{space};
 ghost use Rattle.decimals.specs.Put.{Put};
-ghost use Rattle.records.specs.Numbers.{readRefusal};
+ghost use Rattle.records.specs.Layout.{said, refused};
+ghost use Rattle.records.specs.Numbers.{read-refusal, says};
 ghost use Rattle.unit_line.specs.Line.{amount, line};
 use decimals::LINE_FEED;
 use decimals::SPACE;
@@ -31,8 +32,8 @@ fn put_amount(out: &mut [u8], at: usize, n: u64) -> usize
 }
 
 fn put_row(out: &mut [u8], at: usize, r: Record730) -> usize
-    requires { ⌜ at + length (line (Read730.Record r)) ≤ length (now out) ⌝ }
-    ensures { λ e. ⌜ Put (now (out .entry)) at (line (Read730.Record r)) (now (out .exit)) e ⌝ }
+    requires { ⌜ at + length (line (said r)) ≤ length (now out) ⌝ }
+    ensures { λ e. ⌜ Put (now (out .entry)) at (line (said r)) (now (out .exit)) e ⌝ }
 {
     let srtcde = put_field(out, at, r.srtcde as u64, SPACE);
     let code = put_field(out, srtcde, r.code as u64, SPACE);
@@ -41,7 +42,7 @@ fn put_row(out: &mut [u8], at: usize, r: Record730) -> usize
 }
 
 fn number_of(e: ReadRefusal) -> u64
-    ensures { λ r. ⌜ r ≡ readRefusal e ⌝ }
+    ensures { λ r. ⌜ r ≡ read-refusal e ⌝ }
 {
     match e {
         ReadRefusal::Length => 201,
@@ -52,16 +53,16 @@ fn number_of(e: ReadRefusal) -> u64
 }
 
 fn put_refused(out: &mut [u8], at: usize, e: ReadRefusal) -> usize
-    requires { ⌜ at + length (line (Read730.Refused e)) ≤ length (now out) ⌝ }
-    ensures { λ r. ⌜ Put (now (out .entry)) at (line (Read730.Refused e)) (now (out .exit)) r ⌝ }
+    requires { ⌜ at + length (line (refused (read-refusal e))) ≤ length (now out) ⌝ }
+    ensures { λ r. ⌜ Put (now (out .entry)) at (line (refused (read-refusal e))) (now (out .exit)) r ⌝ }
 {
     let number = put_text(out, at, b"refused ");
     put_field(out, number, number_of(e), LINE_FEED)
 }
 
 pub fn put_line(out: &mut [u8], at: usize, v: Read730) -> usize
-    requires { ⌜ at + length (line v) ≤ length (now out) ⌝ }
-    ensures { λ r. ⌜ Put (now (out .entry)) at (line v) (now (out .exit)) r ⌝ }
+    requires { ⌜ at + length (line (says v)) ≤ length (now out) ⌝ }
+    ensures { λ r. ⌜ Put (now (out .entry)) at (line (says v)) (now (out .exit)) r ⌝ }
 {
     match v {
         Read730::Record(r) => put_row(out, at, r),

@@ -5,21 +5,17 @@ use mathlib.Core.Path.{_≡_, refl}
 use native.Mathlib.Omega.{arith}
 use lib.ListN.{length}
 use Rattle.records.specs.File730.{reading}
-use Rattle.records.specs.Numbers.{readRefusal}
+use Rattle.records.specs.Layout.{Reading, said, refused}
 use Rattle.records.specs.declared.Record730.{Record730}
-use Rattle.records.specs.declared.Read730.{Read730}
-use Rattle.records.specs.declared.Read730.the-variants.{Record, Refused}
-use Rattle.records.specs.declared.ReadRefusal.{ReadRefusal}
-use Rattle.records.specs.declared.ReadRefusal.the-variants.{Length, Fixed, Digit, Mutation}
-use Rattle.records.proofs.Bounds.{Bounds, read-bounds}
+use Rattle.records.proofs.Bounds.{Bounds, read-bounds, refusal-bounds}
 use Rattle.decimals.specs.Decimal.{space, line-feed}
 use Rattle.unit_line.specs.Line.{point, line}
-use Rattle.unit_lines.specs.Records.{lineOf}
-use Rattle.unit_lines.specs.Machine.{longestLine}
+use Rattle.unit_lines.specs.Records.{line-of}
+use Rattle.unit_lines.specs.Machine.{longest-line}
 use Rattle.decimals.proofs.Decimal.{field-most}
 use Rattle.unit_line.proofs.Pieces.{length-row, length-amount, length-refused}
 
-row-most : (r : Record730) → Bounds r → length (line (Record r)) ≤ longestLine
+row-most : (r : Record730) → Bounds r → length (line (said r)) ≤ longest-line
 row-most r b =
     let h = b .cdhoev in
     omega (
@@ -32,16 +28,12 @@ row-most r b =
       field-most 5 (r .cdeenh) line-feed (b .cdeenh),
     )
 
-number-most : (e : ReadRefusal) → readRefusal e < 1000
-number-most Length = omega arith
-number-most Fixed = omega arith
-number-most Digit = omega arith
-number-most Mutation = omega arith
+most : (v : Reading Record730) → ((r : Record730) → v ≡ said r → Bounds r) → ((n : ℕ) → v ≡ refused n → n ≤ 204) → length (line v) ≤ longest-line
+most (said r) f g = row-most r (f r refl)
+most (refused n) f g =
+    let h : n ≤ 204 = g n refl in
+    omega (arith, length-refused n, field-most 2 n line-feed (omega arith))
 
-most : (v : Read730) → ((r : Record730) → v ≡ Record r → Bounds r) → length (line v) ≤ longestLine
-most (Record r) f = row-most r (f r refl)
-most (Refused e) f = omega (arith, length-refused e, field-most 2 (readRefusal e) line-feed (number-most e))
-
-pub longest : (t : List ℕ) → length (lineOf t) ≤ longestLine
-unfolding lineOf
-longest t = most (reading t) (λ r e. read-bounds t r e)
+pub longest : (t : List ℕ) → length (line-of t) ≤ longest-line
+unfolding line-of
+longest t = most (reading t) (λ r e. read-bounds t r e) (λ n e. refusal-bounds t n e .1)

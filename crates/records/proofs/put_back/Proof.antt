@@ -4,7 +4,7 @@ use Rattle.records.proofs.put_back.Statement.{statement}
 use Rattle.records.proofs.put_back.Tie as tie
 
 returns : tie.Need-returns
-returns c = rw (c .before .before .put-text2 .ensures, c .before .before .before .before .before .before .before .put-digits2 .ensures, c .before .before .before .before .before .before .before .before .before .before .before .before .put-text .ensures, c .before .before .before .before .before .before .before .before .before .before .before .before .before .before .before .before .before .put-digits .ensures)
+returns c = rw (c .before .before .put-text2 .ensures .bytes, c .before .before .before .before .before .before .before .put-digits2 .ensures, c .before .before .before .before .before .before .before .before .before .before .before .before .put-text .ensures .bytes, c .before .before .before .before .before .before .before .before .before .before .before .before .before .before .before .before .before .put-digits .ensures)
 
 pub put-back-spec : {M : Type 1} → statement M
 put-back-spec =

@@ -4,7 +4,7 @@ use Rattle.records.proofs.put_front.Statement.{statement}
 use Rattle.records.proofs.put_front.Tie as tie
 
 returns : tie.Need-returns
-returns c = rw (c .before .before .put-digits3 .ensures, c .before .before .before .before .before .before .before .put-digits2 .ensures, c .before .before .before .before .before .before .before .before .before .before .before .before .put-text2 .ensures, c .before .before .before .before .before .before .before .before .before .before .before .before .before .before .before .before .before .put-digits .ensures, c .before .before .before .before .before .before .before .before .before .before .before .before .before .before .before .before .before .before .before .before .before .before .put-text .ensures)
+returns c = rw (c .before .before .put-digits3 .ensures, c .before .before .before .before .before .before .before .put-digits2 .ensures, c .before .before .before .before .before .before .before .before .before .before .before .before .put-text2 .ensures .bytes, c .before .before .before .before .before .before .before .before .before .before .before .before .before .before .before .before .before .put-digits .ensures, c .before .before .before .before .before .before .before .before .before .before .before .before .before .before .before .before .before .before .before .before .before .before .put-text .ensures .bytes)
 
 pub put-front-spec : {M : Type 1} → statement M
 put-front-spec =

@@ -6,13 +6,13 @@ enum-known-v : tie.Need-enum-known-v
 enum-known-v c = search needs
 
 put-row-requires : tie.Need-put-row-requires
-put-row-requires c κs = rw (← c .before .before .v .given .1) (c .before .before .before .before .before .pre)
+put-row-requires c κs = rw (c .before .before .v .given .1) at (c .before .before .before .before .before .pre)
 
 enum-known-v-2 : tie.Need-enum-known-v-2
 enum-known-v-2 c = search needs
 
 put-refused-requires : tie.Need-put-refused-requires
-put-refused-requires c κs = rw (← c .before .before .v2 .given .1) (c .before .before .before .before .before .pre)
+put-refused-requires c κs = rw (c .before .before .v2 .given .1) at (c .before .before .before .before .before .pre)
 
 same-length : tie.Need-same-length
 same-length c = search needs

@@ -1,4 +1,5 @@
 -- The record is written to the bytes behind the numbers, and they are shown. Assumes nothing.
+use mathlib.Core.Path.{_∙_}
 use borrow.Author.Needs.{needs}
 use native.Mathlib.Omega.{arith}
 use denote.Ref.{now}
@@ -12,7 +13,7 @@ returns c =
     let n = c .before .before .before .before .before .before .before .before .before .before .before .before .before .before .before .before .before .args .n in
     let w = c .before .before .before .before .before .before .before .before .before .write-730 in
     let number = c .before .before .before .before .before .write-number in
-    let e = line-left s n (omega arith) _ _ _ (c .before .before .before .before .before .before .before .before .before .before .before .before .before .record-730 .ensures) (c .before .before .before .before .before .before .before .before .before .before .before .long .ensures) _ _ (w .ensures .0) (w .ensures .1) (w .kept .0) (number .ensures) in
+    let e = line-left s n (omega arith) _ _ _ (c .before .before .before .before .before .before .before .before .before .before .before .before .before .record-730 .ensures) (c .before .before .before .before .before .before .before .before .before .before .before .long .ensures) _ (number .ensures ∙ w .ensures .0) (w .ensures .1) (w .kept .0) in
     (rw e at (c .before .before .put-written .ensures .0), c .before .before .put-written .ensures .1, call-left s n (omega arith) _ _ _ (c .before .before .before .before .before .before .before .before .before .before .before .before .before .record-730 .ensures) (c .before .before .before .before .before .before .before .before .before .before .before .long .ensures) (w .ensures .1))
 
 pub put-write-730-spec : {M : Type 1} → statement M
