@@ -17,7 +17,7 @@ module _ (what n have : ℕ) where
   unfolding found-730
   read-whole e h = rw (eq-eqb what 0 e, le-leb (front + n) have h)
 
-  pub read-more : what ≡ 0 → have < front + n → More (front + n) ≡ found-730 what n have
+  pub read-more : what ≡ 0 → have < front + n → More ≡ found-730 what n have
   unfolding found-730
   read-more e h = rw (eq-eqb what 0 e, lt-leb (front + n) have h)
 
@@ -25,7 +25,7 @@ module _ (what n have : ℕ) where
   unfolding found-730
   write-whole e h = rw (e, le-leb (front-730 + n) have h)
 
-  pub write-more : what ≡ 1 → have < front-730 + n → More (front-730 + n) ≡ found-730 what n have
+  pub write-more : what ≡ 1 → have < front-730 + n → More ≡ found-730 what n have
   unfolding found-730
   write-more e h = rw (e, lt-leb (front-730 + n) have h)
 
@@ -34,7 +34,7 @@ module _ (what n have : ℕ) where
   neither e f = rw (ne-eqb what 0 e, ne-eqb what 1 f)
 
 module _ (s : List ℕ) where
-  pub front-more : length s < front → More front ≡ found s
+  pub front-more : length s < front → More ≡ found s
   unfolding found
   front-more h = rw (lt-leb front (length s) h)
 
@@ -50,11 +50,11 @@ module _ (s : List ℕ) where
   unfolding found
   no-file file n e g h j i = rw (le-leb front (length s) h, ← g, ← e, le-leb n most-bytes j, ne-eqb file 730 i)
 
--- a whole call ends inside the bytes, and a part of one needs more, but no more than the longest call
+-- a whole call ends inside the bytes, and a part of one is shorter than the longest call
 abbrev pub Bounded : ℕ → Found → Type 0
 Bounded have (Read730 n) = (front + n ≤ have) × (n ≤ most-bytes)
 Bounded have (Write730 n) = (front-730 + n ≤ have) × (n ≤ most-bytes)
-Bounded have (More n) = (have < n) × (n ≤ longest-call)
+Bounded have More = have < longest-call
 Bounded have Broken = Unit {0}
 
 either : (have : ℕ) (t : Bool) (x y : Found) → (t ≡ true → Bounded have x) → (t ≡ false → Bounded have y) → Bounded have (cond t x y)
@@ -65,18 +65,18 @@ bounded-730 : (what n have : ℕ) → n ≤ most-bytes → Bounded have (found-7
 unfolding found-730
 bounded-730 what n have h =
     either have (eqb what 0) _ _
-    (λ _. either have (leb (front + n) have) (Read730 n) (More (front + n)) (λ e. (leb-true (front + n) have e, h)) (λ e. (leb-false (front + n) have e, omega arith)))
+    (λ _. either have (leb (front + n) have) (Read730 n) More (λ e. (leb-true (front + n) have e, h)) (λ e. omega (arith, leb-false (front + n) have e)))
     (λ _. either have (eqb what 1) _ Broken
-    (λ _. either have (leb (front-730 + n) have) (Write730 n) (More (front-730 + n)) (λ e. (leb-true (front-730 + n) have e, h)) (λ e. (leb-false (front-730 + n) have e, omega arith)))
+    (λ _. either have (leb (front-730 + n) have) (Write730 n) More (λ e. (leb-true (front-730 + n) have e, h)) (λ e. omega (arith, leb-false (front-730 + n) have e)))
     (λ _. tt))
 
 pub bounded : (s : List ℕ) → Bounded (length s) (found s)
 unfolding found
 bounded s =
-    either (length s) (leb front (length s)) _ (More front)
+    either (length s) (leb front (length s)) _ More
     (λ _. either (length s) (leb (word s 8) most-bytes) _ Broken
     (λ e. either (length s) (eqb (word s 0) 730) (found-730 (word s 4) (word s 8) (length s)) Broken
     (λ _. bounded-730 (word s 4) (word s 8) (length s) (leb-true (word s 8) most-bytes e))
     (λ _. tt))
     (λ _. tt))
-    (λ e. (leb-false front (length s) e, omega arith))
+    (λ e. omega (arith, leb-false front (length s) e))

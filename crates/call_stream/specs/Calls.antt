@@ -23,7 +23,7 @@ longest-call = 4_140
 
 -- a whole call where its n bytes behind the numbers are there
 abbrev pub reached : (ℕ → Found) → ℕ → ℕ → ℕ → Found
-reached whole before n have = cond (leb (before + n) have) (whole n) (More (before + n))
+reached whole before n have = cond (leb (before + n) have) (whole n) More
 
 unfoldable pub found-730 : ℕ → ℕ → ℕ → Found
 found-730 what n have = cond (eqb what 0) (reached Read730 front n have) (cond (eqb what 1) (reached Write730 front-730 n have) Broken)
@@ -33,4 +33,4 @@ unfoldable pub found : List ℕ → Found
 found s =
     cond (leb front (length s))
     (cond (leb (word s 8) most-bytes) (cond (eqb (word s 0) 730) (found-730 (word s 4) (word s 8) (length s)) Broken) Broken)
-    (More front)
+    More

@@ -55,13 +55,13 @@ written s n = leaves (record-of s) (place-of s) (chars s front-730 n)
 unfoldable pub line-of : Found → List ℕ → List ℕ
 line-of (Read730 n) s = read-line (read-numbers (reading (chars s front n)))
 line-of (Write730 n) s = write-line (writing (record-of s) (place-of s) n) (written s n)
-line-of (More n) s = []
+line-of More s = []
 line-of Broken s = broken-line
 
 unfoldable pub after : Found → List ℕ → List ℕ
 after (Read730 n) s = s
 after (Write730 n) s = take front-730 s ++ (written s n ++ drop n (drop front-730 s))
-after (More n) s = s
+after More s = s
 after Broken s = s
 
 -- the stream has ended, and these bytes of it are left

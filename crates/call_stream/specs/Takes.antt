@@ -19,7 +19,7 @@ longest-line = 8_214
 unfoldable pub taken : Found → ℕ → Taken
 taken (Read730 n) end = T.Answered (record { call = front + n; end = end })
 taken (Write730 n) end = T.Answered (record { call = front-730 + n; end = end })
-taken (More n) end = T.More n
+taken More end = T.More
 taken Broken end = T.Broken end
 
 pub record Takes (s old : List ℕ) (at : ℕ) (left new : List ℕ) (r : Taken) : Type 0 where

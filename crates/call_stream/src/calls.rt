@@ -11,11 +11,11 @@ pub const FRONT_730: usize = 44;
 
 const MOST: u32 = 4_096;
 
-// A whole call of the file with so many bytes read or lent, or how many bytes are needed to know more, or no call.
+// A whole call of a file with so many bytes read or lent, or a part of a call, or no call.
 pub enum Found {
     Read730(usize),
     Write730(usize),
-    More(usize),
+    More,
     Broken,
 }
 
@@ -27,13 +27,13 @@ fn find_730(what: u32, n: usize, have: usize) -> Found
         if FRONT + n <= have {
             return Found::Read730(n);
         }
-        return Found::More(FRONT + n);
+        return Found::More;
     }
     if what == 1 {
         if FRONT_730 + n <= have {
             return Found::Write730(n);
         }
-        return Found::More(FRONT_730 + n);
+        return Found::More;
     }
     Found::Broken
 }
@@ -42,7 +42,7 @@ pub fn find(s: &[u8]) -> Found
     ensures { λ r. ⌜ r ≡ found (now (s .entry)) ⌝ }
 {
     if s.len() < FRONT {
-        return Found::More(FRONT);
+        return Found::More;
     }
     let file = word(s, 0);
     let what = word(s, 4);

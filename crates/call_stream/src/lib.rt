@@ -29,10 +29,10 @@ pub struct Spans {
     pub end: usize,
 }
 
-// Of bytes gathered so far: a whole call and its line, or how many bytes are needed, or no call and the line that says so.
+// Of bytes gathered so far: they begin with a whole call, whose line is written, or with a part of one, or with none, which the line says.
 pub enum Taken {
     Answered(Spans),
-    More(usize),
+    More,
     Broken(usize),
 }
 
@@ -50,7 +50,7 @@ pub fn take_call(s: &mut [u8], out: &mut [u8], at: usize) -> Taken
             call: FRONT_730 + n,
             end: put_write_730(s, n, out, at),
         }),
-        Found::More(n) => Taken::More(n),
+        Found::More => Taken::More,
         Found::Broken => Taken::Broken(put_text(out, at, b"broken\n")),
     }
 }

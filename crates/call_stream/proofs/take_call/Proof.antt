@@ -8,14 +8,14 @@ use Rattle.call_stream.proofs.Taking.{within, takes}
 use Rattle.call_stream.proofs.take_call.Statement.{statement}
 use Rattle.call_stream.proofs.take_call.Tie as tie
 
-add-t12 : tie.Need-add-t12
-add-t12 c = omega (arith, within _ _ _ (c .before .before .before .find .ensures) (c .before .found .given .1))
+add-t11 : tie.Need-add-t11
+add-t11 c = omega (arith, within _ _ _ (c .before .before .before .find .ensures) (c .before .found .given .1))
 
 put-read-730-requires : tie.Need-put-read-730-requires
 put-read-730-requires c κs = omega (arith, within _ _ _ (c .before .before .before .before .before .find .ensures) (c .before .before .before .found .given .1))
 
-add-t19 : tie.Need-add-t19
-add-t19 c = omega (arith, within _ _ _ (c .before .before .before .find .ensures) (c .before .found2 .given .1))
+add-t18 : tie.Need-add-t18
+add-t18 c = omega (arith, within _ _ _ (c .before .before .before .find .ensures) (c .before .found2 .given .1))
 
 put-write-730-requires : tie.Need-put-write-730-requires
 put-write-730-requires c κs = omega (arith, within _ _ _ (c .before .before .before .before .before .find .ensures) (c .before .before .before .found2 .given .1))
@@ -30,11 +30,11 @@ returns-2 c = takes _ _ _ (c .before .before .before .before .before .before .be
 
 returns-3 : tie.Need-returns-3
 unfolding taken after line-of
-returns-3 c = takes _ _ _ (c .before .before .before .find .ensures) (c .before .found3 .given .1) _ _ _ _ (c .before .before .before .before .before .before .before .args .at) _ (record { bytes = refl; place = omega arith }) (omega arith) refl refl
+returns-3 c = takes _ _ _ (c .before .before .find .ensures) (c .enum-told .given .1) _ _ _ _ (c .before .before .before .before .before .before .args .at) _ (record { bytes = refl; place = omega arith }) (omega arith) refl refl
 
 returns-4 : tie.Need-returns-4
 unfolding taken after line-of broken-line
-returns-4 c = takes _ _ _ (c .before .before .before .before .before .before .before .find .ensures) (c .before .before .before .before .before .enum-told .given .1) _ _ _ _ _ _ (c .before .before .put-text .ensures) (omega (arith, c .before .before .put-text .ensures .place)) refl refl
+returns-4 c = takes _ _ _ (c .before .before .before .before .before .before .before .find .ensures) (c .before .before .before .before .before .enum-told2 .given .1) _ _ _ _ _ _ (c .before .before .put-text .ensures) (omega (arith, c .before .before .put-text .ensures .place)) refl refl
 
 pub take-call-spec : {M : Type 1} → statement M
 take-call-spec =
@@ -42,10 +42,10 @@ take-call-spec =
     (tie.spec
     (λ c κs. search needs)
     (λ c. search needs)
-    add-t12
+    add-t11
     put-read-730-requires
     (λ c. search needs)
-    add-t19
+    add-t18
     put-write-730-requires
     (λ c. search needs)
     (λ c. search needs)

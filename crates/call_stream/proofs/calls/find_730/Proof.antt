@@ -21,4 +21,4 @@ returns-5 : tie.Need-returns-5
 returns-5 c = neither _ _ _ (λ e. c .before .if1 .left e) (λ e. c .if3 .left e)
 
 pub find-730-spec : {M : Type 1} → statement M
-find-730-spec = tie.close (tie.spec (λ c. search needs) returns (λ c. search needs) returns-2 (λ c. search needs) returns-3 (λ c. search needs) returns-4 returns-5)
+find-730-spec = tie.close (tie.spec (λ c. search needs) returns returns-2 (λ c. search needs) returns-3 returns-4 returns-5)
