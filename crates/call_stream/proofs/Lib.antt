@@ -1,4 +1,5 @@
 pub mod Finding
 pub mod Lining
+pub mod Moving
 pub mod Parts
 pub mod Taking

@@ -1,7 +1,10 @@
 // A stream of calls of the readers and writers of records: from a call's bytes to the line of its answer. A file's calls are a module and its cases of `Found`.
-ghost use Prim.Native.Nat.{_+_, _≤_};
+ghost use mathlib.Core.Path.{_≡_};
+ghost use Prim.Native.Nat.{_+_, _-_, _≤_};
 ghost use lib.ListN.{length};
+ghost use lib.Seq.{sets};
 ghost use Rattle.decimals.specs.Put.{Put};
+ghost use Rattle.records.specs.Digits.{chars};
 ghost use Rattle.call_stream.specs.Lines.{last-line};
 ghost use Rattle.call_stream.specs.Takes.{longest-line, Takes};
 
@@ -53,6 +56,20 @@ pub fn take_call(s: &mut [u8], out: &mut [u8], at: usize) -> Taken
         Found::More => Taken::More,
         Found::Broken => Taken::Broken(put_text(out, at, b"broken\n")),
     }
+}
+
+// The bytes from one place to another, moved to the front: how many they are. What stands behind them there is left.
+pub fn to_front(s: &mut [u8], from: usize, to: usize) -> usize
+    requires { ⌜ (from ≤ to) × (to ≤ length (now s)) ⌝ }
+    ensures { λ r. ⌜ (r ≡ to - from) × (now (s .exit) ≡ sets (now (s .entry)) 0 (chars (now (s .entry)) from (to - from))) ⌝ }
+{
+    let n = to - from;
+    let mut i: usize = 0;
+    while i < n {
+        s[i] = s[from + i];
+        i += 1;
+    }
+    n
 }
 
 // The stream has ended, and these bytes are left.
