@@ -54,7 +54,7 @@ unfolding last-line
 last-none [] old at e = record { bytes = refl; place = omega arith }
 last-none (b ∷ s) old at e = absurd (let z : ⊥ = omega arith in z)
 
-pub last-some : (s old new : List ℕ) (at end : ℕ) → (length s ≡ 0 → ⊥) → Put old at broken-line new end → Put old at (last-line s) new end
+pub last-some : (s old new text : List ℕ) (at end : ℕ) → (length s ≡ 0 → ⊥) → Put old at text new end → text ≡ broken-line → Put old at (last-line s) new end
 unfolding last-line
-last-some [] old new at end n p = absurd (n refl)
-last-some (b ∷ s) old new at end n p = p
+last-some [] old new text at end n p e = absurd (n refl)
+last-some (b ∷ s) old new text at end n p e = rw e at p

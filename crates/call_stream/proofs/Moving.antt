@@ -16,5 +16,5 @@ module _ (old s : List ℕ) (from i : ℕ) (h : from + i < length old) (e : s �
       let n : length (take i (drop from old)) ≡ i = length-take-le i (drop from old) (rw (length-drop from old) (omega arith)) in
       rw e (behind-run old 0 (take i (drop from old)) (from + i) (omega arith) ∙ sym (getD-drop from old i 0))
 
-  pub move-turn : set s i (getD s (from + i) 0) ≡ sets old 0 (take (i + 1) (drop from old))
-  move-turn = rw (there, e) (rw (zero-add i) at (sets-next old 0 (drop from old) i (rw (length-drop from old) (omega arith))))
+  pub move-turn : (to here : ℕ) → to ≡ i → here ≡ from + i → set s to (getD s here 0) ≡ sets old 0 (take (i + 1) (drop from old))
+  move-turn to here f g = rw (f, g, there, e) (rw (zero-add i) at (sets-next old 0 (drop from old) i (rw (length-drop from old) (omega arith))))

@@ -5,6 +5,7 @@ use mathlib.Core.Path.{_≡_, ap, _∙_}
 use native.Mathlib.Omega.{arith}
 use lib.ListN.{length, take, drop, length-take, length-drop}
 use lib.Seq.{length-take-le, take-at, drop-at}
+use Rattle.numbers.specs.Words.{word, long}
 use Rattle.records.specs.Digits.{chars}
 use Rattle.records.specs.File730.{writing, leaves}
 use Rattle.records.specs.declared.Record730.{Record730}
@@ -18,6 +19,11 @@ pub part-of : (s : List ℕ) (at n : ℕ) → take (at + n - at) (drop at s) ≡
 part-of s at n =
     let e : at + n - at ≡ n = omega arith in
     rw e
+
+-- the record, number by number
+pub record-is : (s : List ℕ) (mutation srtcde code cdhoev cdeenh : ℕ) → mutation ≡ word s 20 → srtcde ≡ word s 24 → code ≡ word s 28 → cdhoev ≡ long s 32 → cdeenh ≡ word s 40 →
+    record { mutation = mutation; srtcde = srtcde; code = code; cdhoev = cdhoev; cdeenh = cdeenh } ≡ record-of s
+record-is s mutation srtcde code cdhoev cdeenh m r c h e = rw (m, r, c, h, e)
 
 -- the bytes put into the middle, found again
 middle : (s b : List ℕ) (at n : ℕ) → at + n ≤ length s → length b ≡ n → take n (drop at (take at s ++ (b ++ drop n (drop at s)))) ≡ b

@@ -8,7 +8,7 @@ ghost use Rattle.records.specs.Digits.{chars};
 ghost use Rattle.call_stream.specs.Lines.{last-line};
 ghost use Rattle.call_stream.specs.Takes.{longest-line, Takes};
 
-pub mod calls;
+mod calls;
 mod file_730;
 mod hex;
 mod lines;

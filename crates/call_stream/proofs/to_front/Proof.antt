@@ -19,7 +19,7 @@ loop-holds : tie.Need-loop-holds Inv-loop μ-loop
 loop-holds c = (omega arith, refl, refl, refl)
 
 loop-again : tie.Need-loop-again Inv-loop μ-loop
-loop-again c = (omega arith, c .before .before .loop .inv .1, simp length-set (omega arith), move-turn _ _ _ _ (omega arith) (c .before .before .loop .inv .3))
+loop-again c = (omega arith, c .before .before .loop .inv .1, simp length-set (omega arith), move-turn _ _ (c .before .before .before .args .from) (c .before .before .loop .i) (omega arith) (c .before .before .loop .inv .3) _ _ (omega arith) (omega arith))
 
 same-length : tie.Need-same-length Inv-loop μ-loop
 same-length c = c .before .loop .inv .2
