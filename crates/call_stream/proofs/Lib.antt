@@ -3,3 +3,4 @@ pub mod Lining
 pub mod Moving
 pub mod Parts
 pub mod Taking
+pub mod Examples
