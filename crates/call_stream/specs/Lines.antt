@@ -11,7 +11,7 @@ use Rattle.records.specs.Digits.{chars}
 use Rattle.records.specs.File730.{reading, writing, leaves}
 use Rattle.records.specs.Numbers.{read-numbers}
 use Rattle.records.specs.declared.Record730.{Record730}
-use Rattle.call_stream.specs.Calls.{front, front-730, found}
+use Rattle.call_stream.specs.Calls.{front, front-730}
 use Rattle.call_stream.specs.declared.calls.Found.{Found}
 use Rattle.call_stream.specs.declared.calls.Found.the-variants.{Read730, Write730, More, Broken}
 

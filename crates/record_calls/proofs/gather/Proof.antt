@@ -1,7 +1,6 @@
 -- What is read ends inside the buffer. Assumes nothing.
 use mathlib.Core.Path.{sym}
 use borrow.Author.Needs.{needs}
-use native.Mathlib.Omega.{arith}
 use lib.Seq.{length-take-le}
 use Rattle.record_calls.proofs.gather.Statement.{statement}
 use Rattle.record_calls.proofs.gather.Tie as tie
