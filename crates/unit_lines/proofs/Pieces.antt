@@ -29,7 +29,7 @@ line-short : (t : List ℕ) → 1 ≤ length t → length (line-of (but-last t))
 line-short t h =
     let l : length (but-last t) ≡ length t - 1 = length-take-le (length t - 1) t (omega arith) in
     let other : (length (but-last t) ≡ 64 → ⊥) → length (line-of (but-last t)) ≤ 6 * (length t + 1) =
-        λ n. rw (line-length (but-last t) n) (omega (arith, length-refused 201, field-most 2 201 line-feed (omega arith))) in
+    λ n. rw (line-length (but-last t) n) (omega (arith, length-refused 201, field-most 2 201 line-feed (omega arith))) in
     ⊎-elim
     (λ (a : length (but-last t) < 64). other (λ e. omega arith))
     (λ (a : 64 ≤ length (but-last t)).

@@ -1,0 +1,15 @@
+-- What a turn promises: the machine heard what was read and nothing else, and its lines stand in the buffer; or there was nothing to hear. Assumes nothing.
+use Prim.Native.Nat.{ℕ}
+use mathlib.Core.List.{List}
+use mathlib.Core.Path.{_≡_}
+use lib.ListN.{take}
+use Rattle.unit_lines.specs.Listing.{Lists}
+use Rattle.unit_lines.specs.declared.text.ListMachine.{ListMachine}
+use Rattle.unit_list.specs.declared.Turn.{Turn}
+use Rattle.unit_list.specs.declared.Next.the-variants.{More, End, Failed}
+
+-- by the input buffer after the read, and the lent buffer before and after
+pub data Turns (m : ListMachine) (input old new : List ℕ) (r : Turn) : Type 0 where
+  more : (n : ℕ) → r .next ≡ More → Lists m (take n input) old new (record { machine = r .machine; written = r .written }) → Turns m input old new r
+  ended : r ≡ record { machine = m; written = 0; next = End } → new ≡ old → Turns m input old new r
+  failed : r ≡ record { machine = m; written = 0; next = Failed } → new ≡ old → Turns m input old new r
