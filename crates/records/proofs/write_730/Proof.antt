@@ -16,7 +16,7 @@ use Rattle.records.proofs.write_730.Tie as tie
 returns : tie.Need-returns
 unfolding leaves leaving writing answer
 returns c =
-    let wide : c .before .before .fits-730 .result ≡ false = not-true _ (c .if1 .taken) in
+    let wide : c .before .before .fits-730 .result ≡ false = not-true (c .before .before .fits-730 .result) (c .if1 .taken) in
     let e = sym (c .before .before .fits-730 .ensures) ∙ wide in
     (rw e refl, rw e)
 
