@@ -9,7 +9,7 @@ use lib.Seq.{sets, sets-eq, take-at, drop-at, length-take-le}
 use Rattle.unit_lines.specs.Records.{records-of, line-of, lines-of, unless-empty, unit-list}
 use Rattle.unit_lines.specs.Machine.{go-on, shrunk, keep, text-of}
 use Rattle.unit_lines.specs.Feeding.{feeding, Feeds, Finishes}
-use Rattle.unit_lines.specs.Listing.{Lists, Rests, fetched, written-by}
+use Rattle.unit_lines.specs.Listing.{Lists, Rests, fetched, written-by, Listed, start, fed, piece}
 use Rattle.unit_lines.specs.declared.text.ListMachine.{ListMachine}
 use Rattle.unit_lines.specs.declared.machine.Fed.{Fed}
 use Rattle.unit_lines.specs.declared.machine.Finished.{Finished}
@@ -19,18 +19,6 @@ use Rattle.unit_lines.proofs.Finishing.{finished}
 use Rattle.unit_lines.proofs.GoOn.{go-append, go-split}
 use Rattle.unit_lines.proofs.Run.{Taken, run-taken}
 use Rattle.unit_lines.proofs.Shrunk.{kept-text, ended-kept, rest-kept, last-kept}
-
--- A machine after any number of calls, by what they promise: the input taken so far and the lines fetched. `new_machine` comes first; then `feed`,
--- from any place of a piece into any buffer (a caller hands over again what a call left, or not: what was taken, in order, is the input), or
--- `list_piece`, which takes a whole piece.
-pub data Listed : List ℕ → List ℕ → ListMachine → Type 0 where
-  start : (m : ListMachine) → m ≡ keep [] → Listed [] [] m
-  fed : {input output : List ℕ} {m : ListMachine} → Listed input output m
-      → (s : List ℕ) (from : ℕ) (old : List ℕ) (at : ℕ) (new : List ℕ) (r : Fed) → Feeds m s from old at new r
-      → Listed (input ++ take (r .taken) (drop from s)) (output ++ fetched new at (r .written)) (r .machine)
-  piece : {input output : List ℕ} {m : ListMachine} → Listed input output m
-      → (s old new : List ℕ) (r : Piece) → Lists m s old new r
-      → Listed (input ++ s) (output ++ fetched new 0 (r .written)) (r .machine)
 
 pub lines-append : (a b : List (List ℕ)) → lines-of (a ++ b) ≡ lines-of a ++ lines-of b
 unfolding lines-of

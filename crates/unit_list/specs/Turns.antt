@@ -3,7 +3,7 @@ use Prim.Native.Nat.{ℕ}
 use mathlib.Core.List.{List}
 use mathlib.Core.Path.{_≡_}
 use lib.ListN.{take}
-use Rattle.unit_lines.specs.Listing.{Lists}
+use Rattle.unit_lines.specs.Listing.{Lists, Listed}
 use Rattle.unit_lines.specs.declared.text.ListMachine.{ListMachine}
 use Rattle.unit_list.specs.declared.Turn.{Turn}
 use Rattle.unit_list.specs.declared.Next.the-variants.{More, End, Failed}
@@ -13,3 +13,9 @@ pub data Turns (m : ListMachine) (input old new : List ℕ) (r : Turn) : Type 0 
   more : (n : ℕ) → r .next ≡ More → Lists m (take n input) old new (record { machine = r .machine; written = r .written }) → Turns m input old new r
   ended : r ≡ record { machine = m; written = 0; next = End } → new ≡ old → Turns m input old new r
   failed : r ≡ record { machine = m; written = 0; next = Failed } → new ≡ old → Turns m input old new r
+
+-- a machine that began with no text and heard pieces of an input, one behind the other, and nothing else
+pub record Heard (m : ListMachine) : Type 0 where
+  pub input : List ℕ
+  pub output : List ℕ
+  pub listed : Listed input output m

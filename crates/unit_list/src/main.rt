@@ -3,7 +3,7 @@
 ghost use Prim.Native.Nat.{_≤_};
 ghost use lib.ListN.{length};
 ghost use Rattle.unit_lines.specs.Listing.{room-for};
-ghost use Rattle.unit_list.specs.Turns.{Turns};
+ghost use Rattle.unit_list.specs.Turns.{Turns, Heard};
 use libc::STDIN_FILENO;
 use libc::STDOUT_FILENO;
 use unit_lines::ListMachine;
@@ -66,6 +66,7 @@ fn read_piece(m: ListMachine, input: &mut [u8], out: &mut [u8]) -> Turn
 // A proved loop has to end, and nothing says that an input does: it counts down from a number that no run uses up.
 fn list_all(input: &mut [u8], out: &mut [u8]) -> Turn
     requires { ⌜ room-for (length (now input)) ≤ length (now out) ⌝ }
+    ensures { λ r. ⌜ Heard (r .machine) ⌝ }
 {
     let mut machine = unit_lines::new_machine();
     let mut turns = u64::MAX;
