@@ -2,8 +2,9 @@
 // unit_lines; here bytes are moved.
 ghost use Prim.Native.Nat.{_≤_};
 ghost use lib.ListN.{length};
+ghost use Rattle.unit_lines.specs.Machine.{longest-line};
 ghost use Rattle.unit_lines.specs.Listing.{room-for};
-ghost use Rattle.unit_list.specs.Turns.{Turns, Heard};
+ghost use Rattle.unit_list.specs.Turns.{Turns, Heard, Ends};
 use libc::STDIN_FILENO;
 use libc::STDOUT_FILENO;
 use unit_lines::ListMachine;
@@ -98,16 +99,24 @@ fn list_all(input: &mut [u8], out: &mut [u8]) -> Turn
     }
 }
 
-// After a failure nothing that is unfinished is listed.
+// The line of a last record; after a failure nothing that is unfinished is listed.
+fn list_end(last: Turn, out: &mut [u8]) -> usize
+    requires { ⌜ longest-line ≤ length (now out) ⌝ }
+    ensures { λ n. ⌜ Ends last (now (out .exit)) n ⌝ }
+{
+    let next = last.next;
+    let machine = last.machine;
+    match next {
+        Next::End => unit_lines::list_rest(machine, out),
+        Next::More => 0,
+        Next::Failed => 0,
+    }
+}
+
 fn main() {
     let mut input = io::large_buffer();
     let mut out = io::large_buffer();
     let last = list_all(&mut input[..PIECE], &mut out);
-    let next = last.next;
-    let Next::End = next else {
-        return;
-    };
-    let machine = last.machine;
-    let n = unit_lines::list_rest(machine, &mut out);
+    let n = list_end(last, &mut out);
     put_out(&out[..n]);
 }

@@ -13,7 +13,7 @@ list-all-requires c κs =
     omega (arith, length-take-le 8192 (c .before .before .before .large-buffer .result) (omega (arith, c .before .before .before .large-buffer .ensures)), c .before .before .large-buffer2 .ensures)
 
 slice-aggregate-put-out : tie.Need-slice-aggregate-put-out
-slice-aggregate-put-out c = sym (length-take-le (c .before .before .list-rest .result) (c .before .before .list-rest .last .1 .0) (search needs))
+slice-aggregate-put-out c = sym (length-take-le (c .before .before .list-end .result) (c .before .before .list-end .last .1 .0) (c .before .before .list-end .ensures .inside))
 
 pub main-spec : {M : Type 1} → statement M
 main-spec =
@@ -25,8 +25,6 @@ main-spec =
     slice-aggregate-list-all
     (λ c. search needs)
     list-all-requires
-    (λ c. search needs)
-    (λ c. search needs)
     (λ c. search needs)
     (λ c κs. search needs)
     (λ c. search needs)
