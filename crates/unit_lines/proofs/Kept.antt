@@ -7,7 +7,7 @@ use native.Mathlib.Omega.{arith}
 use native.Mathlib.Nat.{not-suc-le-zero}
 use lib.ListN.{length, getD, take, set, length-append, length-take}
 use lib.Seq.{sets, set-set, take-suc, take-append-add, length-take-le, take-all, take-take}
-use Rattle.records.proofs.Stores.{sets-append}
+use Rattle.decimals.proofs.Puts.{sets-append}
 use Rattle.unit_lines.specs.Machine.{last-of, but-last, kept-most, shrunk, no-bytes, keep, text-of}
 use Rattle.unit_lines.specs.declared.text.ListMachine.{ListMachine}
 use Rattle.unit_lines.proofs.Shrunk.{shrunk-short, shrunk-long, length-shrunk, shrunk-more, kept-text, last-append}

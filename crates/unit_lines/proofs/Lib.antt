@@ -8,4 +8,5 @@ pub mod Whole
 pub mod Finishing
 pub mod Feeding
 pub mod Callers
+pub mod Pieces
 pub mod Listed

@@ -39,7 +39,7 @@ kept-text t =
     rw (sets-eq (shrunk t) no-bytes 0 h) (take-append-seam (shrunk t) (drop (0 + length (shrunk t)) no-bytes))
 
 -- a record of any other length is refused, whatever it holds
-line-length : (t : List ℕ) → (length t ≡ 64 → ⊥) → line-of t ≡ line (refused 201)
+pub line-length : (t : List ℕ) → (length t ≡ 64 → ⊥) → line-of t ≡ line (refused 201)
 unfolding line-of reading scan
 line-length t h = rw (ne-eqb (length t) 64 h)
 

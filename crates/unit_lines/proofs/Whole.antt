@@ -6,7 +6,7 @@ use native.Mathlib.Omega.{arith}
 use native.Mathlib.Nat.{add-zero}
 use lib.ListN.{length, take, drop, length-append, length-drop}
 use lib.Seq.{sets, length-sets, take-take, take-all, length-take-le, drop-drop}
-use Rattle.records.proofs.Stores.{sets-append}
+use Rattle.decimals.proofs.Puts.{sets-append}
 use Rattle.decimals.specs.Put.{Put}
 use Rattle.unit_lines.specs.Records.{line-of}
 use Rattle.unit_lines.specs.Machine.{but-last, end-in, longest-line, Run, stopped, after, run}

@@ -1,12 +1,17 @@
 -- What feeding and finishing promise: the whole result, and the whole final content of the lent buffer. Assumes nothing.
 use Prim.Native.Nat.{ℕ, _+_, _-_, _≤_}
-use mathlib.Core.List.{List}
+use mathlib.Core.Bool.{cond}
+use mathlib.Core.List.{List, [], _∷_}
 use mathlib.Core.Path.{_≡_}
 use lib.ListN.{length, take, drop}
 use lib.Seq.{sets}
-use Rattle.unit_lines.specs.Machine.{Run, run, last-line, keep, text-of}
+use lib.Dec.{ltb}
+use Rattle.unit_lines.specs.Records.{line-of}
+use Rattle.unit_lines.specs.Machine.{longest-line, Run, run, last-line, keep, text-of}
 use Rattle.unit_lines.specs.declared.text.ListMachine.{ListMachine}
 use Rattle.unit_lines.specs.declared.machine.Fed.{Fed}
+use Rattle.unit_lines.specs.declared.machine.Finished.{Finished}
+use Rattle.unit_lines.specs.declared.machine.Finished.the-variants.{Line, NoRecord, NoRoom}
 use Rattle.unit_lines.specs.declared.machine.Moved.{Moved}
 
 -- the machine fed with the input from a place on, into the buffer from a place on
@@ -18,10 +23,14 @@ pub record Feeds (m : ListMachine) (input : List ℕ) (from : ℕ) (old : List �
   pub bytes : new ≡ sets old at (feeding m input from old at .written)
   pub room : r .written ≤ length old - at
 
-pub record Finishes (m : ListMachine) (old : List ℕ) (at : ℕ) (new : List ℕ) (r : ℕ) : Type 0 where
-  pub result : r ≡ length (last-line (length old - at) (text-of m))
+-- what finishing answers, by the room and the text held
+unfoldable pub finishing : ℕ → List ℕ → Finished
+finishing room [] = NoRecord
+finishing room (c ∷ t) = cond (ltb room longest-line) NoRoom (Line (length (line-of (c ∷ t))))
+
+pub record Finishes (m : ListMachine) (old : List ℕ) (at : ℕ) (new : List ℕ) (r : Finished) : Type 0 where
+  pub result : r ≡ finishing (length old - at) (text-of m)
   pub bytes : new ≡ sets old at (last-line (length old - at) (text-of m))
-  pub room : r ≤ length old - at
 
 -- a run over whole records that lie in the input: up to `stop`, with the text from `next` to `stop` held and the lines up to `end` written
 pub record Moves (r : Run) (input : List ℕ) (from : ℕ) (old : List ℕ) (at : ℕ) (new : List ℕ) (m : Moved) : Type 0 where

@@ -1,3 +1,4 @@
 pub mod Records
 pub mod Machine
 pub mod Feeding
+pub mod Listing

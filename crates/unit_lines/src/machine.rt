@@ -157,18 +157,25 @@ pub fn feed(m: ListMachine, input: &[u8], from: usize, out: &mut [u8], at: usize
     }
 }
 
-// Writes the line of a last record without CR LF, if there is one and room for a longest line.
-pub fn finish(m: ListMachine, out: &mut [u8], at: usize) -> usize
+// The line of a last record without CR LF has so many characters, or there is none, or no room for a longest line.
+pub enum Finished {
+    Line(usize),
+    NoRecord,
+    NoRoom,
+}
+
+pub fn finish(m: ListMachine, out: &mut [u8], at: usize) -> Finished
     ensures { λ r. ⌜ Finishes m (now (out .entry)) at (now (out .exit)) r ⌝ }
 {
     let len = length_of(m);
     if len == 0 {
-        return 0;
+        return Finished::NoRecord;
     }
     if has_room(out.len(), at) {
         let bytes = m.bytes;
         let end = list_text(&bytes[..len], out, at);
-        return end - at;
+        let written = end - at;
+        return Finished::Line(written);
     }
-    0
+    Finished::NoRoom
 }

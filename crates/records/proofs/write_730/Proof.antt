@@ -1,6 +1,7 @@
 -- `write_730` meets its contract: 205, then 206, then the two halves, which together are the record at its place.
 use Prim.Native.Nat.{_+_, _≤_}
-use mathlib.Core.Path.{sym, _∙_}
+use mathlib.Core.Bool.{false}
+use mathlib.Core.Path.{_≡_, refl, sym, _∙_}
 use denote.Ref.{now}
 use borrow.Author.Needs.{needs}
 use borrow.Author.Tests.{not-true, not-false, leb-true}
@@ -15,15 +16,16 @@ use Rattle.records.proofs.write_730.Tie as tie
 returns : tie.Need-returns
 unfolding leaves leaving writing answer
 returns c =
-    let e = sym (c .before .before .fits-730 .ensures) ∙ not-true _ (c .if1 .taken) in
-    (rw e, rw e)
+    let wide : c .before .before .fits-730 .result ≡ false = not-true (c .before .before .fits-730 .result) (c .if1 .taken) in
+    let e = sym (c .before .before .fits-730 .ensures) ∙ wide in
+    (rw e refl, rw e)
 
 returns-2 : tie.Need-returns-2
 unfolding leaves leaving writing answer
 returns-2 c =
     let e = sym (c .before .before .before .fits-730 .ensures) ∙ not-false _ (c .before .if1 .left) in
     let f = sym (c .before .before .has-room .ensures) ∙ not-true _ (c .if2 .taken) in
-    (rw (e, f), rw (e, f))
+    (rw (e, f) refl, rw (e, f))
 
 room : (c : tie.Else2) → c .before .before .before .before .before .args .at + 64 ≤ length (now (c .before .before .before .before .before .args .buf))
 room c = leb-true _ _ (sym (c .before .before .has-room .ensures) ∙ not-false _ (c .if2 .left))

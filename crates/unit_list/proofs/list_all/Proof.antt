@@ -1,51 +1,31 @@
 -- The measure is the number of turns that are left.
-use mathlib.Core.Path.{_≡_, refl, _∙_}
+use mathlib.Core.Path.{_≡_, refl, sym, _∙_}
 use native.Mathlib.Omega.{arith}
 use lib.ListN.{length}
+use lib.Seq.{length-take-le}
+use borrow.Author.Needs.{needs}
+use Rattle.unit_list.specs.Turns.{Heard}
+use Rattle.unit_list.proofs.Turned.{turn-inside, heard-nothing, turn-heard}
 use Rattle.unit_list.proofs.list_all.Statement.{statement}
 use Rattle.unit_list.proofs.list_all.Tie as tie
 
 abbrev Inv-loop : tie.InvT-loop
-Inv-loop input₀ out₀ machine₀ turns₀ input out machine turns = (length input ≡ length input₀) × (length out ≡ length out₀)
+Inv-loop input₀ out₀ machine₀ turns₀ input out machine turns = (length input ≡ length input₀) × (length out ≡ length out₀) × Heard machine
 
 abbrev μ-loop : tie.MeasureT-loop
 μ-loop input₀ out₀ machine₀ turns₀ input out machine turns = turns
 
-new-machine-requires : tie.Need-new-machine-requires Inv-loop μ-loop
-new-machine-requires c κs = tt
-
-loop-holds : tie.Need-loop-holds Inv-loop μ-loop
-loop-holds c = (refl, refl)
-
-sub-turns : tie.Need-sub-turns Inv-loop μ-loop
-sub-turns c = omega arith
-
 read-piece-requires : tie.Need-read-piece-requires Inv-loop μ-loop
 read-piece-requires c κs = omega arith
 
-same-length : tie.Need-same-length Inv-loop μ-loop
-same-length c = c .before .before .before .before .before .before .before .read-piece .kept .1 .0 ∙ c .before .before .before .before .before .before .before .before .before .before .before .loop .inv .0
+slice-reshare-prefix-put-out : tie.Need-slice-reshare-prefix-put-out Inv-loop μ-loop
+slice-reshare-prefix-put-out c = omega (arith, turn-inside (c .before .before .before .before .before .read-piece .ensures), c .before .before .before .before .before .read-piece .kept .1 .1 .0)
 
-same-length-2 : tie.Need-same-length-2 Inv-loop μ-loop
-same-length-2 c = c .before .before .before .before .before .before .before .read-piece .kept .1 .1 .0 ∙ c .before .before .before .before .before .before .before .before .before .before .before .loop .inv .1
-
-returns : tie.Need-returns Inv-loop μ-loop
-returns c = tt
-
-loop-less : tie.Need-loop-less Inv-loop μ-loop
-loop-less c = omega arith
+slice-aggregate-put-out : tie.Need-slice-aggregate-put-out Inv-loop μ-loop
+slice-aggregate-put-out c = sym (length-take-le _ _ (omega (arith, turn-inside (c .before .before .before .before .before .before .read-piece .ensures), c .before .before .before .before .before .before .read-piece .kept .1 .1 .0)))
 
 loop-again : tie.Need-loop-again Inv-loop μ-loop
-loop-again c = (c .before .before .before .before .before .before .before .read-piece .kept .1 .0 ∙ c .before .before .before .before .before .before .before .before .before .before .before .loop .inv .0, c .before .before .before .before .before .before .before .read-piece .kept .1 .1 .0 ∙ c .before .before .before .before .before .before .before .before .before .before .before .loop .inv .1)
-
-same-length-3 : tie.Need-same-length-3 Inv-loop μ-loop
-same-length-3 c = c .before .loop .inv .0
-
-same-length-4 : tie.Need-same-length-4 Inv-loop μ-loop
-same-length-4 c = c .before .loop .inv .1
-
-returns-2 : tie.Need-returns-2 Inv-loop μ-loop
-returns-2 c = tt
+loop-again c = (c .before .before .before .before .before .before .before .before .before .before .read-piece .kept .1 .0 ∙ c .before .before .before .before .before .before .before .before .before .before .before .before .before .before .loop .inv .0, c .before .before .before .before .before .before .before .before .before .before .read-piece .kept .1 .1 .0 ∙ c .before .before .before .before .before .before .before .before .before .before .before .before .before .before .loop .inv .1, turn-heard (c .before .before .before .before .before .before .before .before .before .before .before .before .before .before .loop .inv .2) (c .before .before .before .before .before .before .before .before .before .before .read-piece .ensures))
 
 pub list-all-spec : {M : Type 1} → statement M
 list-all-spec =
@@ -53,15 +33,22 @@ list-all-spec =
     (tie.spec
     Inv-loop
     μ-loop
-    new-machine-requires
-    loop-holds
-    sub-turns
+    (λ c κs. search needs)
+    (λ c. (refl, refl, heard-nothing (c .new-machine .ensures)))
+    (λ c. omega arith)
     read-piece-requires
-    same-length
-    same-length-2
-    returns
-    loop-less
+    slice-reshare-prefix-put-out
+    slice-aggregate-put-out
+    (λ c κs. search needs)
+    (λ c. c .before .before .before .before .before .before .before .before .read-piece .kept .1 .0 ∙ c .before .before .before .before .before .before .before .before .before .before .before .before .loop .inv .0)
+    (λ c. c .before .before .before .before .before .before .before .before .read-piece .kept .1 .1 .0 ∙ c .before .before .before .before .before .before .before .before .before .before .before .before .loop .inv .1)
+    (λ c. turn-heard (c .before .before .before .before .before .before .before .before .before .before .before .before .loop .inv .2) (c .before .before .before .before .before .before .before .before .read-piece .ensures))
+    (λ c. search needs)
+    (λ c. omega arith)
     loop-again
-    same-length-3
-    same-length-4
-    returns-2)
+    (λ c. c .before .before .before .before .before .before .before .before .before .read-piece .kept .1 .0 ∙ c .before .before .before .before .before .before .before .before .before .before .before .before .before .loop .inv .0)
+    (λ c. c .before .before .before .before .before .before .before .before .before .read-piece .kept .1 .1 .0 ∙ c .before .before .before .before .before .before .before .before .before .before .before .before .before .loop .inv .1)
+    (λ c. turn-heard (c .before .before .before .before .before .before .before .before .before .before .before .before .before .loop .inv .2) (c .before .before .before .before .before .before .before .before .before .read-piece .ensures))
+    (λ c. c .before .loop .inv .0)
+    (λ c. c .before .loop .inv .1)
+    (λ c. c .before .loop .inv .2))

@@ -4,10 +4,8 @@ use native.Mathlib.Omega.{arith}
 use borrow.Author.Tests.{leb-true, leb-false}
 use denote.Ref.{now}
 use lib.ListN.{length}
-use Rattle.unit_lines.specs.Machine.{longest-line, text-of}
+use Rattle.unit_lines.specs.Machine.{longest-line}
 use Rattle.unit_lines.proofs.Kept.{text-inside, take-text}
-use Rattle.unit_lines.proofs.Longest.{longest}
-use Rattle.unit_lines.proofs.Whole.{put-inside}
 use Rattle.unit_lines.proofs.Finishing.{finish-none, finish-full, finish-line}
 use borrow.Author.Needs.{needs}
 use Rattle.unit_lines.proofs.machine.finish.Statement.{statement}
@@ -33,8 +31,8 @@ list-text-requires c κs =
     let r : longest-line ≤ length (now (c .before .before .before .before .before .before .before .before .args .out)) - c .before .before .before .before .before .before .before .before .args .at = leb-true _ _ (sym (c .before .before .before .before .has-room .ensures) ∙ c .before .before .before .if2 .taken) in
     omega arith
 
-sub-result : tie.Need-sub-result
-sub-result c = search needs
+sub-written : tie.Need-sub-written
+sub-written c = search needs
 
 same-length : tie.Need-same-length
 same-length c = search needs
@@ -43,10 +41,10 @@ returns-2 : tie.Need-returns-2
 returns-2 c =
     let r : longest-line ≤ length (now (c .before .before .before .before .before .before .before .before .before .before .before .args .out)) - c .before .before .before .before .before .before .before .before .before .before .before .args .at = leb-true _ _ (sym (c .before .before .before .before .before .before .before .has-room .ensures) ∙ c .before .before .before .before .before .before .if2 .taken) in
     let p = rw (take-text (c .before .before .before .before .before .before .before .before .before .before .before .args .m) _ (c .before .before .before .before .before .before .before .before .before .length-of .ensures)) at (c .before .before .list-text .ensures) in
-    finish-line (c .before .before .before .before .before .before .before .before .before .before .before .args .m) _ _ _ _ r (omega (arith, c .before .before .before .before .before .before .before .before .before .length-of .ensures, c .before .before .before .before .before .before .before .before .if1 .left)) p (put-inside p (longest (text-of (c .before .before .before .before .before .before .before .before .before .before .before .args .m))) r)
+    finish-line (c .before .before .before .before .before .before .before .before .before .before .before .args .m) _ _ _ _ r (omega (arith, c .before .before .before .before .before .before .before .before .before .length-of .ensures, c .before .before .before .before .before .before .before .before .if1 .left)) p
 
 returns-3 : tie.Need-returns-3
-returns-3 c = finish-full (c .before .before .before .before .before .args .m) _ _ (leb-false _ _ (sym (c .before .has-room .ensures) ∙ c .if2 .left))
+returns-3 c = finish-full (c .before .before .before .before .before .args .m) _ _ (leb-false _ _ (sym (c .before .has-room .ensures) ∙ c .if2 .left)) (omega (arith, c .before .before .before .length-of .ensures, c .before .before .if1 .left))
 
 pub finish-spec : {M : Type 1} → statement M
 finish-spec =
@@ -58,7 +56,7 @@ finish-spec =
     array-share-prefix-bytes
     slice-aggregate-list-text
     list-text-requires
-    sub-result
+    sub-written
     same-length
     returns-2
     returns-3)
