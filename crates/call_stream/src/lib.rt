@@ -21,9 +21,7 @@ use crate::file_730::put_read_730;
 use crate::file_730::put_write_730;
 use decimals::put_text;
 
-// Room for any call, and for any line.
-pub const LONGEST_CALL: usize = 4_140;
-
+// Room for any line.
 pub const LONGEST_LINE: usize = 8_214;
 
 // How many bytes a call has, and the place behind its line.
