@@ -1,10 +1,10 @@
--- Reading and writing: a number is read back where it was written, and no other number changes. Assumes nothing.
+-- Reading and writing: a number is read back where it was written, and no other number changes. What bytes say stays when more follow, and fits in its bits. Assumes nothing.
 use Prim.Native.Nat.{ℕ, _+_, _*_, _/_, _%_, _^_, _<_, _≤_}
-use mathlib.Core.List.{List}
+use mathlib.Core.List.{List, _++_}
 use mathlib.Core.Path.{_≡_, _∙_}
 use native.Mathlib.Omega.{arith}
 use native.Mathlib.Nat.{add-zero}
-use lib.ListN.{length, getD}
+use lib.ListN.{length, getD, List·getD-append}
 use lib.Seq.{sets, length-sets}
 use Rattle.numbers.specs.Words.{word, long, word-bytes, long-bytes}
 use Rattle.numbers.proofs.Runs.{sets-append, before-run, behind-run, in-run}
@@ -68,6 +68,21 @@ long-back l at n h j =
     let a : word (sets low (at + 4) high) at ≡ n % 4_294_967_296 = word-before low (at + 4) high at (omega arith) ∙ word-back l at (n % 4_294_967_296) (omega arith) (omega arith) in
     let b : word (sets low (at + 4) high) (at + 4) ≡ n / 4_294_967_296 = word-back low (at + 4) (n / 4_294_967_296) (rw length-sets (omega arith)) (omega arith) in
     rw (sets-append l at (word-bytes (n % 4_294_967_296)) high, a, b) (omega arith)
+
+-- more bytes behind the number
+pub word-on : (s t : List ℕ) (at : ℕ) → at + 4 ≤ length s → word (s ++ t) at ≡ word s at
+unfolding word
+word-on s t at h =
+    rw (
+      List·getD-append s t 0 at (omega arith),
+      List·getD-append s t 0 (at + 1) (omega arith),
+      List·getD-append s t 0 (at + 2) (omega arith),
+      List·getD-append s t 0 (at + 3) (omega arith),
+    )
+
+pub long-on : (s t : List ℕ) (at : ℕ) → at + 8 ≤ length s → long (s ++ t) at ≡ long s at
+unfolding long
+long-on s t at h = rw (word-on s t at (omega arith), word-on s t (at + 4) (omega arith))
 
 -- what bytes spell fits in its bits
 module _ (l : List ℕ) (bytes : (i : ℕ) → getD l i 0 < 256) (at : ℕ) where
