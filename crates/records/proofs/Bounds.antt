@@ -9,7 +9,7 @@ use Rattle.records.specs.Layout.{fits}
 use Rattle.records.specs.File730.{reading, writable}
 use Rattle.records.specs.declared.Record730.{Record730}
 use Rattle.records.specs.declared.Read730.the-variants.{Record}
-use Rattle.records.proofs.Bools.{and-parts}
+use Rattle.records.proofs.Bools.{and-split}
 use Rattle.records.proofs.WritesBack.{read-writable}
 
 pub record Bounds (r : Record730) : Type 0 where
@@ -22,11 +22,11 @@ pub record Bounds (r : Record730) : Type 0 where
 pub writable-bounds : (r : Record730) → writable r ≡ true → Bounds r
 unfolding writable fits
 writable-bounds r w =
-    let a = and-parts (leb (r .mutation) 3) _ w in
-    let b = and-parts (ltb (r .srtcde) (10 ^ 6)) _ (a .1) in
-    let c = and-parts (ltb (r .code) (10 ^ 8)) _ (b .1) in
-    let d = and-parts (ltb (r .cdhoev) (10 ^ 12)) _ (c .1) in
-    let e = and-parts (ltb (r .cdeenh) (10 ^ 6)) _ (d .1) in
+    let a = and-split (leb (r .mutation) 3) _ w in
+    let b = and-split (ltb (r .srtcde) (10 ^ 6)) _ (a .1) in
+    let c = and-split (ltb (r .code) (10 ^ 8)) _ (b .1) in
+    let d = and-split (ltb (r .cdhoev) (10 ^ 12)) _ (c .1) in
+    let e = and-split (ltb (r .cdeenh) (10 ^ 6)) _ (d .1) in
     record {
       mutation = leb-true _ _ (a .0);
       srtcde = ltb-true _ _ (b .0);

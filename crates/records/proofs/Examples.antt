@@ -9,7 +9,7 @@ use Rattle.records.specs.Ascii.{ascii}
 use Rattle.records.specs.Digits.{digits}
 use Rattle.records.specs.Layout.{every, values, numbers, scan, fits, spell, answer, leaving}
 use Rattle.records.specs.File730.{reading, writing, leaves}
-use Rattle.records.specs.Numbers.{readNumbers, writeNumber}
+use Rattle.records.specs.Numbers.{read-numbers, write-number}
 use Rattle.records.specs.declared.Record730.{Record730}
 
 -- pieces run together
@@ -21,57 +21,57 @@ nineteen : String
 nineteen = "                   "
 
 -- document 01's record; 004: HPK 216267, 20,000 DR
-haldol-dr : readNumbers (reading (run ("0730" ∷ "0" ∷ "1850" ∷ "000001" ∷ "00216267" ∷ "000000020000" ∷ "0002" ∷ "000303" ∷ nineteen ∷ []))) ≡ 0 ∷ 0 ∷ 1 ∷ 216267 ∷ 20000 ∷ 303 ∷ []
+haldol-dr : read-numbers (reading (run ("0730" ∷ "0" ∷ "1850" ∷ "000001" ∷ "00216267" ∷ "000000020000" ∷ "0002" ∷ "000303" ∷ nineteen ∷ []))) ≡ 0 ∷ 0 ∷ 1 ∷ 216267 ∷ 20000 ∷ 303 ∷ []
 unfolding run nineteen reading scan every numbers values
 haldol-dr = refl
 
 -- 004: HPK 216267, 1,000 ML
-haldol-ml : readNumbers (reading (run ("0730" ∷ "0" ∷ "1850" ∷ "000001" ∷ "00216267" ∷ "000000001000" ∷ "0002" ∷ "000233" ∷ nineteen ∷ []))) ≡ 0 ∷ 0 ∷ 1 ∷ 216267 ∷ 1000 ∷ 233 ∷ []
+haldol-ml : read-numbers (reading (run ("0730" ∷ "0" ∷ "1850" ∷ "000001" ∷ "00216267" ∷ "000000001000" ∷ "0002" ∷ "000233" ∷ nineteen ∷ []))) ≡ 0 ∷ 0 ∷ 1 ∷ 216267 ∷ 1000 ∷ 233 ∷ []
 unfolding run nineteen reading scan every numbers values
 haldol-ml = refl
 
 -- 004: HPK 1709925, 1,000 ST, here with mutation digit 3
-spidifen-st : readNumbers (reading (run ("0730" ∷ "3" ∷ "1850" ∷ "000001" ∷ "01709925" ∷ "000000001000" ∷ "0002" ∷ "000245" ∷ nineteen ∷ []))) ≡ 0 ∷ 3 ∷ 1 ∷ 1709925 ∷ 1000 ∷ 245 ∷ []
+spidifen-st : read-numbers (reading (run ("0730" ∷ "3" ∷ "1850" ∷ "000001" ∷ "01709925" ∷ "000000001000" ∷ "0002" ∷ "000245" ∷ nineteen ∷ []))) ≡ 0 ∷ 3 ∷ 1 ∷ 1709925 ∷ 1000 ∷ 245 ∷ []
 unfolding run nineteen reading scan every numbers values
 spidifen-st = refl
 
 -- 004: PRK 21806, 0,010 MG
-colecalciferol-mg : readNumbers (reading (run ("0730" ∷ "0" ∷ "1850" ∷ "000002" ∷ "00021806" ∷ "000000000010" ∷ "0002" ∷ "000229" ∷ nineteen ∷ []))) ≡ 0 ∷ 0 ∷ 2 ∷ 21806 ∷ 10 ∷ 229 ∷ []
+colecalciferol-mg : read-numbers (reading (run ("0730" ∷ "0" ∷ "1850" ∷ "000002" ∷ "00021806" ∷ "000000000010" ∷ "0002" ∷ "000229" ∷ nineteen ∷ []))) ≡ 0 ∷ 0 ∷ 2 ∷ 21806 ∷ 10 ∷ 229 ∷ []
 unfolding run nineteen reading scan every numbers values
 colecalciferol-mg = refl
 
 -- 004: GPK 53015, 400,000 ST, the row that 004 prints beside 1,000 ST
-colecalciferol-st : readNumbers (reading (run ("0730" ∷ "0" ∷ "1850" ∷ "000003" ∷ "00053015" ∷ "000000400000" ∷ "0002" ∷ "000245" ∷ nineteen ∷ []))) ≡ 0 ∷ 0 ∷ 3 ∷ 53015 ∷ 400000 ∷ 245 ∷ []
+colecalciferol-st : read-numbers (reading (run ("0730" ∷ "0" ∷ "1850" ∷ "000003" ∷ "00053015" ∷ "000000400000" ∷ "0002" ∷ "000245" ∷ nineteen ∷ []))) ≡ 0 ∷ 0 ∷ 3 ∷ 53015 ∷ 400000 ∷ 245 ∷ []
 unfolding run nineteen reading scan every numbers values
 colecalciferol-st = refl
 
 -- 004: HPK 709050, 300,000 IE. The documents print no code for IE: 999998 stands in for it here
-mixtard-ie : readNumbers (reading (run ("0730" ∷ "0" ∷ "1850" ∷ "000001" ∷ "00709050" ∷ "000000300000" ∷ "0002" ∷ "999998" ∷ nineteen ∷ []))) ≡ 0 ∷ 0 ∷ 1 ∷ 709050 ∷ 300000 ∷ 999998 ∷ []
+mixtard-ie : read-numbers (reading (run ("0730" ∷ "0" ∷ "1850" ∷ "000001" ∷ "00709050" ∷ "000000300000" ∷ "0002" ∷ "999998" ∷ nineteen ∷ []))) ≡ 0 ∷ 0 ∷ 1 ∷ 709050 ∷ 300000 ∷ 999998 ∷ []
 unfolding run nineteen reading scan every numbers values
 mixtard-ie = refl
 
 -- one character short, with another file number and a letter among the digits besides: the length is tested first
-short-201 : readNumbers (reading (run ("0731" ∷ "0" ∷ "1850" ∷ "000001" ∷ "0021626X" ∷ "000000020000" ∷ "0002" ∷ "00030" ∷ nineteen ∷ []))) ≡ 201 ∷ 0 ∷ 0 ∷ 0 ∷ 0 ∷ 0 ∷ []
+short-201 : read-numbers (reading (run ("0731" ∷ "0" ∷ "1850" ∷ "000001" ∷ "0021626X" ∷ "000000020000" ∷ "0002" ∷ "00030" ∷ nineteen ∷ []))) ≡ 201 ∷ 0 ∷ 0 ∷ 0 ∷ 0 ∷ 0 ∷ []
 unfolding run nineteen reading scan every numbers values
 short-201 = refl
 
 -- the last character is no space, and the mutation character is no digit: the fixed parts are tested first
-fixed-202 : readNumbers (reading (run ("0730" ∷ "A" ∷ "1850" ∷ "000001" ∷ "00216267" ∷ "000000020000" ∷ "0002" ∷ "000303" ∷ "                  ." ∷ []))) ≡ 202 ∷ 0 ∷ 0 ∷ 0 ∷ 0 ∷ 0 ∷ []
+fixed-202 : read-numbers (reading (run ("0730" ∷ "A" ∷ "1850" ∷ "000001" ∷ "00216267" ∷ "000000020000" ∷ "0002" ∷ "000303" ∷ "                  ." ∷ []))) ≡ 202 ∷ 0 ∷ 0 ∷ 0 ∷ 0 ∷ 0 ∷ []
 unfolding run nineteen reading scan every numbers values
 fixed-202 = refl
 
 -- the mutation character is no digit
-digit-203 : readNumbers (reading (run ("0730" ∷ "A" ∷ "1850" ∷ "000001" ∷ "00216267" ∷ "000000020000" ∷ "0002" ∷ "000303" ∷ nineteen ∷ []))) ≡ 203 ∷ 0 ∷ 0 ∷ 0 ∷ 0 ∷ 0 ∷ []
+digit-203 : read-numbers (reading (run ("0730" ∷ "A" ∷ "1850" ∷ "000001" ∷ "00216267" ∷ "000000020000" ∷ "0002" ∷ "000303" ∷ nineteen ∷ []))) ≡ 203 ∷ 0 ∷ 0 ∷ 0 ∷ 0 ∷ 0 ∷ []
 unfolding run nineteen reading scan every numbers values
 digit-203 = refl
 
 -- the mutation digit is above 3, and the unit's last character is no digit: the digits are tested first
-digit-first-203 : readNumbers (reading (run ("0730" ∷ "4" ∷ "1850" ∷ "000001" ∷ "00216267" ∷ "000000020000" ∷ "0002" ∷ "00030 " ∷ nineteen ∷ []))) ≡ 203 ∷ 0 ∷ 0 ∷ 0 ∷ 0 ∷ 0 ∷ []
+digit-first-203 : read-numbers (reading (run ("0730" ∷ "4" ∷ "1850" ∷ "000001" ∷ "00216267" ∷ "000000020000" ∷ "0002" ∷ "00030 " ∷ nineteen ∷ []))) ≡ 203 ∷ 0 ∷ 0 ∷ 0 ∷ 0 ∷ 0 ∷ []
 unfolding run nineteen reading scan every numbers values
 digit-first-203 = refl
 
 -- the mutation digit is above 3
-mutation-204 : readNumbers (reading (run ("0730" ∷ "4" ∷ "1850" ∷ "000001" ∷ "00216267" ∷ "000000020000" ∷ "0002" ∷ "000303" ∷ nineteen ∷ []))) ≡ 204 ∷ 0 ∷ 0 ∷ 0 ∷ 0 ∷ 0 ∷ []
+mutation-204 : read-numbers (reading (run ("0730" ∷ "4" ∷ "1850" ∷ "000001" ∷ "00216267" ∷ "000000020000" ∷ "0002" ∷ "000303" ∷ nineteen ∷ []))) ≡ 204 ∷ 0 ∷ 0 ∷ 0 ∷ 0 ∷ 0 ∷ []
 unfolding run nineteen reading scan every numbers values
 mutation-204 = refl
 
@@ -79,7 +79,7 @@ drops : Record730
 drops = record { mutation = 0; srtcde = 1; code = 216267; cdhoev = 20000; cdeenh = 303 }
 
 -- in a buffer of 70 points, at place 2
-writes-0 : (writeNumber (writing drops 2 70) ≡ 0)
+writes-0 : (write-number (writing drops 2 70) ≡ 0)
     × (leaves drops 2 (replicate 70 46) ≡ run (".." ∷ "0730" ∷ "0" ∷ "1850" ∷ "000001" ∷ "00216267" ∷ "000000020000" ∷ "0002" ∷ "000303" ∷ nineteen ∷ "...." ∷ []))
 unfolding drops run nineteen leaves leaving writing answer fits spell digits
 writes-0 = (refl, refl)
@@ -92,14 +92,14 @@ fourth : Record730
 fourth = record { mutation = 4; srtcde = 1; code = 216267; cdhoev = 20000; cdeenh = 303 }
 
 -- in a buffer with no room: too wide is tested first
-wide-205 : (writeNumber (writing nine 0 3) ≡ 205) × (writeNumber (writing fourth 0 3) ≡ 205) × (leaves nine 0 (ascii "...") ≡ ascii "...")
+wide-205 : (write-number (writing nine 0 3) ≡ 205) × (write-number (writing fourth 0 3) ≡ 205) × (leaves nine 0 (ascii "...") ≡ ascii "...")
 unfolding nine fourth leaves leaving writing answer fits
 wide-205 = (refl, refl, refl)
 
 -- one character short; a place at the buffer's end; the largest place, where place + 64 would wrap in 64 bits
-room-206 : (writeNumber (writing drops 1 64) ≡ 206)
-    × (writeNumber (writing drops 64 64) ≡ 206)
-    × (writeNumber (writing drops (2 ^ 64 - 1) 64) ≡ 206)
+room-206 : (write-number (writing drops 1 64) ≡ 206)
+    × (write-number (writing drops 64 64) ≡ 206)
+    × (write-number (writing drops (2 ^ 64 - 1) 64) ≡ 206)
     × (leaves drops 1 (replicate 64 46) ≡ replicate 64 46)
 unfolding drops leaves leaving writing answer fits
 room-206 = (refl, refl, refl, refl)

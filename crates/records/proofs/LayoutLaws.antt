@@ -9,10 +9,10 @@ use lib.ListN.{length, drop, length-append, drop-of-length-le, take-append-drop}
 use lib.Seq.{take-at, drop-at, drop-drop}
 use lib.Dec.{eqb}
 use Rattle.records.specs.Digits.{chars, unless}
-use Rattle.records.specs.Layout.{Part, Value, Values, Scanned, said, refused, width, total, every, fixedPart, digitPart, mutationPart, values, fitsPart, fits, spelt, spell, numbers, scan}
+use Rattle.records.specs.Layout.{Part, Value, Values, Scanned, said, refused, width, total, every, fixed-part, digit-part, mutation-part, values, fits-part, fits, spelt, spell, numbers, scan}
 use Rattle.records.specs.declared.ReadRefusal.{ReadRefusal}
 use Rattle.records.specs.declared.ReadRefusal.the-variants.{Length, Fixed, Digit, Mutation}
-use Rattle.records.proofs.Bools.{and-parts, and-both}
+use Rattle.records.proofs.Bools.{and-split, and-both}
 use Rattle.records.proofs.Chars.{length-chars}
 use Rattle.records.proofs.Spelling.{length-spelt, length-spell}
 use Rattle.records.proofs.PartLaws.{spelt-fixed, spelt-digit, spelt-mutation, spelt-value, value-spelt, value-fits}
@@ -25,12 +25,12 @@ past : (p : Part) (v : Value p) (pre : List ℕ) (at : ℕ) → length pre ≡ a
 past p v pre at h = rw (length-append pre (spelt p v), h, length-spelt p v)
 
 -- what is written passes a test that each part's writing passes
-every-spelt : (test : Part → List ℕ → Bool) → ((p : Part) (v : Value p) → fitsPart p v ≡ true → test p (spelt p v) ≡ true) →
+every-spelt : (test : Part → List ℕ → Bool) → ((p : Part) (v : Value p) → fits-part p v ≡ true → test p (spelt p v) ≡ true) →
     (ps : List Part) (v : Values ps) → fits ps v ≡ true → (pre : List ℕ) (at : ℕ) → length pre ≡ at → every test ps at (pre ++ spell ps v) ≡ true
 unfolding every fits spell
 every-spelt test t [] v f pre at h = refl
 every-spelt test t (p ∷ ps) v f pre at h =
-    let q = and-parts (fitsPart p (v .0)) (fits ps (v .1)) f in
+    let q = and-split (fits-part p (v .0)) (fits ps (v .1)) f in
     let rest = every-spelt test t ps (v .1) (q .1) (pre ++ spelt p (v .0)) (at + width p) (past p (v .0) pre at h) in
     rw (here p (v .0) pre (spell ps (v .1)) at h, t p (v .0) (q .0), ← append-assoc pre (spelt p (v .0)) (spell ps (v .1))) rest
 
@@ -38,7 +38,7 @@ values-spelt : (ps : List Part) (v : Values ps) → fits ps v ≡ true → (pre 
 unfolding values fits spell
 values-spelt [] v f pre at h = refl
 values-spelt (p ∷ ps) v f pre at h =
-    let q = and-parts (fitsPart p (v .0)) (fits ps (v .1)) f in
+    let q = and-split (fits-part p (v .0)) (fits ps (v .1)) f in
     let rest = values-spelt ps (v .1) (q .1) (pre ++ spelt p (v .0)) (at + width p) (past p (v .0) pre at h) in
     rw (here p (v .0) pre (spell ps (v .1)) at h, spelt-value p (v .0) (q .0), ← append-assoc pre (spelt p (v .0)) (spell ps (v .1)), rest)
 
@@ -48,29 +48,29 @@ unfolding scan numbers
 scan-spell ps v f =
     rw (
       eq-eqb _ _ (length-spell ps v),
-      every-spelt fixedPart spelt-fixed ps v f [] 0 refl,
-      every-spelt digitPart spelt-digit ps v f [] 0 refl,
-      every-spelt mutationPart spelt-mutation ps v f [] 0 refl,
+      every-spelt fixed-part spelt-fixed ps v f [] 0 refl,
+      every-spelt digit-part spelt-digit ps v f [] 0 refl,
+      every-spelt mutation-part spelt-mutation ps v f [] 0 refl,
       values-spelt ps v f [] 0 refl,
     )
 
 -- what was read from the place on is what its values write
-spell-values : (ps : List Part) (at : ℕ) (s : List ℕ) → at + total ps ≡ length s → every fixedPart ps at s ≡ true → every digitPart ps at s ≡ true → spell ps (values ps at s) ≡ drop at s
+spell-values : (ps : List Part) (at : ℕ) (s : List ℕ) → at + total ps ≡ length s → every fixed-part ps at s ≡ true → every digit-part ps at s ≡ true → spell ps (values ps at s) ≡ drop at s
 unfolding every values spell
 spell-values [] at s h f d = sym (drop-of-length-le s {i = at} (omega arith))
 spell-values (p ∷ ps) at s h f d =
-    let g = and-parts (fixedPart p (chars s at (width p))) (every fixedPart ps (at + width p) s) f in
-    let e = and-parts (digitPart p (chars s at (width p))) (every digitPart ps (at + width p) s) d in
+    let g = and-split (fixed-part p (chars s at (width p))) (every fixed-part ps (at + width p) s) f in
+    let e = and-split (digit-part p (chars s at (width p))) (every digit-part ps (at + width p) s) d in
     let long = length-chars s at (width p) (omega arith) in
     rw (value-spelt p (chars s at (width p)) long (g .0) (e .0), spell-values ps (at + width p) s (omega arith) (g .1) (e .1), ← drop-drop (width p) at s)
     (take-append-drop (width p) (drop at s))
 
-fits-values : (ps : List Part) (at : ℕ) (s : List ℕ) → at + total ps ≡ length s → every digitPart ps at s ≡ true → every mutationPart ps at s ≡ true → fits ps (values ps at s) ≡ true
+fits-values : (ps : List Part) (at : ℕ) (s : List ℕ) → at + total ps ≡ length s → every digit-part ps at s ≡ true → every mutation-part ps at s ≡ true → fits ps (values ps at s) ≡ true
 unfolding every values fits
 fits-values [] at s h d m = refl
 fits-values (p ∷ ps) at s h d m =
-    let e = and-parts (digitPart p (chars s at (width p))) (every digitPart ps (at + width p) s) d in
-    let n = and-parts (mutationPart p (chars s at (width p))) (every mutationPart ps (at + width p) s) m in
+    let e = and-split (digit-part p (chars s at (width p))) (every digit-part ps (at + width p) s) d in
+    let n = and-split (mutation-part p (chars s at (width p))) (every mutation-part ps (at + width p) s) m in
     and-both _ _ (value-fits p (chars s at (width p)) (length-chars s at (width p) (omega arith)) (e .0) (n .0)) (fits-values ps (at + width p) s (omega arith) (e .1) (n .1))
 
 unless-said : {ps : List Part} (b : Bool) (e : ReadRefusal) (next : Scanned ps) (v : Values ps) → unless b (refused e) next ≡ said v → (b ≡ true) × (next ≡ said v)

@@ -8,9 +8,9 @@ use native.Mathlib.Nat.{pow-suc}
 use borrow.Author.Tests.{le-leb}
 use lib.ListN.{length}
 use lib.Dec.{leb}
-use Rattle.records.specs.Digits.{digits, digitsOnly, horner}
-use Rattle.records.proofs.Bools.{and-parts, and-both}
-use Rattle.records.proofs.Numbers.{digit-parts, said-below}
+use Rattle.records.specs.Digits.{digits, digits-only, horner}
+use Rattle.records.proofs.Bools.{and-split, and-both}
+use Rattle.records.proofs.Numbers.{digit-split, said-below}
 use Rattle.records.proofs.Stores.{length-digits}
 
 horner-last : (a : ℕ) (l : List ℕ) (d : ℕ) → horner a (l ++ (d ∷ [])) ≡ horner a l * 10 + (d - 48)
@@ -26,31 +26,31 @@ said-digits (suc k) n h =
     let e : horner 0 (digits k (n / 10)) ≡ n / 10 = said-digits k (n / 10) j in
     horner-last 0 (digits k (n / 10)) (48 + n % 10) ∙ omega arith
 
-only-last : (l : List ℕ) (d : ℕ) → 48 ≤ d → d ≤ 57 → digitsOnly l ≡ true → digitsOnly (l ++ (d ∷ [])) ≡ true
+only-last : (l : List ℕ) (d : ℕ) → 48 ≤ d → d ≤ 57 → digits-only l ≡ true → digits-only (l ++ (d ∷ [])) ≡ true
 only-last [] d h j e = rw (le-leb 48 d h, le-leb d 57 j)
 only-last (x ∷ l) d h j e =
-    let p = and-parts (leb 48 x && leb x 57) (digitsOnly l) e in
-    and-both (leb 48 x && leb x 57) (digitsOnly (l ++ (d ∷ []))) (p .0) (only-last l d h j (p .1))
+    let p = and-split (leb 48 x && leb x 57) (digits-only l) e in
+    and-both (leb 48 x && leb x 57) (digits-only (l ++ (d ∷ []))) (p .0) (only-last l d h j (p .1))
 
-pub digits-only : (k n : ℕ) → digitsOnly (digits k n) ≡ true
+pub digits-are-digits : (k n : ℕ) → digits-only (digits k n) ≡ true
 unfolding digits
-digits-only zero n = refl
-digits-only (suc k) n = only-last (digits k (n / 10)) (48 + n % 10) (omega arith) (omega arith) (digits-only k (n / 10))
+digits-are-digits zero n = refl
+digits-are-digits (suc k) n = only-last (digits k (n / 10)) (48 + n % 10) (omega arith) (omega arith) (digits-are-digits k (n / 10))
 
 -- two runs of digits of one length that say the same are the same
-said-once : (a b : ℕ) (l m : List ℕ) → length l ≡ length m → digitsOnly l ≡ true → digitsOnly m ≡ true → horner a l ≡ horner b m → (a ≡ b) × (l ≡ m)
+said-once : (a b : ℕ) (l m : List ℕ) → length l ≡ length m → digits-only l ≡ true → digits-only m ≡ true → horner a l ≡ horner b m → (a ≡ b) × (l ≡ m)
 said-once a b [] [] h d e q = (q, refl)
 said-once a b [] (y ∷ m) h d e q = absurd (let z : ⊥ = omega arith in z)
 said-once a b (x ∷ l) [] h d e q = absurd (let z : ⊥ = omega arith in z)
 said-once a b (x ∷ l) (y ∷ m) h d e q =
-    let p = digit-parts x l d in
-    let r = digit-parts y m e in
+    let p = digit-split x l d in
+    let r = digit-split y m e in
     let t = said-once (a * 10 + (x - 48)) (b * 10 + (y - 48)) l m (omega arith) (p .2) (r .2) q in
     let same-digit : x ≡ y = omega arith in
     (omega arith, rw (same-digit, t .1))
 
 -- digits are those of the number that they say
-pub digits-said : (k : ℕ) (l : List ℕ) → length l ≡ k → digitsOnly l ≡ true → digits k (horner 0 l) ≡ l
+pub digits-said : (k : ℕ) (l : List ℕ) → length l ≡ k → digits-only l ≡ true → digits k (horner 0 l) ≡ l
 digits-said k l h d =
     let below : horner 0 l < 10 ^ k = rw (← h) (said-below l d) in
-    said-once 0 0 (digits k (horner 0 l)) l (length-digits k (horner 0 l) ∙ sym h) (digits-only k (horner 0 l)) d (said-digits k (horner 0 l) below) .1
+    said-once 0 0 (digits k (horner 0 l)) l (length-digits k (horner 0 l) ∙ sym h) (digits-are-digits k (horner 0 l)) d (said-digits k (horner 0 l) below) .1

@@ -3,7 +3,7 @@ use Prim.Native.Nat.{ℕ}
 use mathlib.Core.Bool.{true}
 use mathlib.Core.List.{List}
 use mathlib.Core.Path.{_≡_, ap, sym, _∙_}
-use Rattle.records.specs.File730.{reading, writable, chars730}
+use Rattle.records.specs.File730.{reading, writable, chars-730}
 use Rattle.records.specs.declared.Record730.{Record730}
 use Rattle.records.specs.declared.Read730.the-variants.{Record}
 use Rattle.records.proofs.ReadsBack.{reads-back}
@@ -16,7 +16,7 @@ pub record IsRead (s : List ℕ) : Type 0 where
 pub record IsWritten (s : List ℕ) : Type 0 where
   pub of : Record730
   pub fits : writable of ≡ true
-  pub wrote : chars730 of ≡ s
+  pub wrote : chars-730 of ≡ s
 
 pub read-is-written : (s : List ℕ) → IsRead s → IsWritten s
 read-is-written s x = record { of = x .of; fits = read-writable s (x .of) (x .read); wrote = writes-back s (x .of) (x .read) }

@@ -27,9 +27,9 @@ unfoldable pub digits : ℕ → ℕ → List ℕ
 digits zero n = []
 digits (suc k) n = digits k (n / 10) ++ ((48 + n % 10) ∷ [])
 
-abbrev pub digitsOnly : List ℕ → Bool
-digitsOnly [] = true
-digitsOnly (d ∷ l) = (leb 48 d && leb d 57) && digitsOnly l
+abbrev pub digits-only : List ℕ → Bool
+digits-only [] = true
+digits-only (d ∷ l) = (leb 48 d && leb d 57) && digits-only l
 
 -- the number that digits say, after the number a
 abbrev pub horner : ℕ → List ℕ → ℕ
@@ -37,5 +37,5 @@ horner a [] = a
 horner a (d ∷ l) = horner (a * 10 + (d - 48)) l
 
 -- the number of a field, where it has digits only
-unfoldable pub fieldOf : List ℕ → Field
-fieldOf l = unless (digitsOnly l) NoDigits (Number (horner 0 l))
+unfoldable pub field-of : List ℕ → Field
+field-of l = unless (digits-only l) NoDigits (Number (horner 0 l))

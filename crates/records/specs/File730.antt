@@ -10,8 +10,8 @@ use Rattle.records.specs.declared.Read730.the-variants.{Record, Refused}
 use Rattle.records.specs.declared.Written.{Written}
 
 -- 64 characters. The numbers are SRTCDE, CODE, CDHOEV (nine whole, three decimal digits) and CDEENH.
-abbrev pub layout730 : List Part
-layout730 =
+abbrev pub layout-730 : List Part
+layout-730 =
     text (ascii "0730")
     ∷ mutation
     ∷ text (ascii "1850")
@@ -23,31 +23,31 @@ layout730 =
     ∷ text (spaces 19)
     ∷ []
 
-abbrev pub record730 : Values layout730 → Record730
-record730 (_, (m, (_, (s, (c, (h, (_, (e, _)))))))) = record { mutation = m; srtcde = s; code = c; cdhoev = h; cdeenh = e }
+abbrev pub record-730 : Values layout-730 → Record730
+record-730 (_, (m, (_, (s, (c, (h, (_, (e, _)))))))) = record { mutation = m; srtcde = s; code = c; cdhoev = h; cdeenh = e }
 
-abbrev pub values730 : Record730 → Values layout730
-values730 r = (tt, (r .mutation, (tt, (r .srtcde, (r .code, (r .cdhoev, (tt, (r .cdeenh, (tt, tt)))))))))
+abbrev pub values-730 : Record730 → Values layout-730
+values-730 r = (tt, (r .mutation, (tt, (r .srtcde, (r .code, (r .cdhoev, (tt, (r .cdeenh, (tt, tt)))))))))
 
-abbrev pub read730 : Scanned layout730 → Read730
-read730 (said v) = Record (record730 v)
-read730 (refused e) = Refused e
+abbrev pub read-as-730 : Scanned layout-730 → Read730
+read-as-730 (said v) = Record (record-730 v)
+read-as-730 (refused e) = Refused e
 
 unfoldable pub reading : List ℕ → Read730
-reading s = read730 (scan layout730 s)
+reading s = read-as-730 (scan layout-730 s)
 
 -- no number too wide, and the mutation digit at most 3
 unfoldable pub writable : Record730 → Bool
-writable r = fits layout730 (values730 r)
+writable r = fits layout-730 (values-730 r)
 
 -- the 64 characters of a record
-unfoldable pub chars730 : Record730 → List ℕ
-chars730 r = spell layout730 (values730 r)
+unfoldable pub chars-730 : Record730 → List ℕ
+chars-730 r = spell layout-730 (values-730 r)
 
 -- what writing at a place answers, by the buffer's length
 unfoldable pub writing : Record730 → ℕ → ℕ → Written
-writing r at room = answer layout730 (values730 r) at room
+writing r at room = answer layout-730 (values-730 r) at room
 
 -- what it leaves in the buffer
 unfoldable pub leaves : Record730 → ℕ → List ℕ → List ℕ
-leaves r at old = leaving layout730 (values730 r) at old
+leaves r at old = leaving layout-730 (values-730 r) at old

@@ -4,7 +4,7 @@ use mathlib.Core.Bool.{Bool, true, _&&_}
 use mathlib.Core.List.{List, [], _∷_, _++_}
 use lib.ListN.{length, take, drop}
 use lib.Dec.{leb, ltb, eqb}
-use Rattle.records.specs.Digits.{chars, unless, same, digits, digitsOnly, horner}
+use Rattle.records.specs.Digits.{chars, unless, same, digits, digits-only, horner}
 use Rattle.records.specs.declared.ReadRefusal.{ReadRefusal}
 use Rattle.records.specs.declared.ReadRefusal.the-variants.{Length, Fixed, Digit, Mutation}
 use Rattle.records.specs.declared.Written.{Written}
@@ -36,22 +36,22 @@ total [] = 0
 total (p ∷ ps) = width p + total ps
 
 -- 202: a fixed part differs
-abbrev pub fixedPart : Part → List ℕ → Bool
-fixedPart (text t) c = same t c
-fixedPart mutation c = true
-fixedPart (number k) c = true
+abbrev pub fixed-part : Part → List ℕ → Bool
+fixed-part (text t) c = same t c
+fixed-part mutation c = true
+fixed-part (number k) c = true
 
 -- 203: a digit is expected and absent
-abbrev pub digitPart : Part → List ℕ → Bool
-digitPart (text t) c = true
-digitPart mutation c = digitsOnly c
-digitPart (number k) c = digitsOnly c
+abbrev pub digit-part : Part → List ℕ → Bool
+digit-part (text t) c = true
+digit-part mutation c = digits-only c
+digit-part (number k) c = digits-only c
 
 -- 204: the mutation digit is above 3
-abbrev pub mutationPart : Part → List ℕ → Bool
-mutationPart (text t) c = true
-mutationPart mutation c = leb (horner 0 c) 3
-mutationPart (number k) c = true
+abbrev pub mutation-part : Part → List ℕ → Bool
+mutation-part (text t) c = true
+mutation-part mutation c = leb (horner 0 c) 3
+mutation-part (number k) c = true
 
 -- every part, from the place at on, passes the test
 unfoldable pub every : (Part → List ℕ → Bool) → List Part → ℕ → List ℕ → Bool
@@ -73,26 +73,26 @@ pub data Scanned (ps : List Part) : Type 0 where
 
 unfoldable pub numbers : (ps : List Part) → List ℕ → Scanned ps
 numbers ps s =
-    unless (every digitPart ps 0 s) (refused Digit)
-    (unless (every mutationPart ps 0 s) (refused Mutation)
+    unless (every digit-part ps 0 s) (refused Digit)
+    (unless (every mutation-part ps 0 s) (refused Mutation)
     (said (values ps 0 s)))
 
 -- reading a record: the tests in document 01's order, all fixed parts before any digit
 unfoldable pub scan : (ps : List Part) → List ℕ → Scanned ps
 scan ps s =
     unless (eqb (length s) (total ps)) (refused Length)
-    (unless (every fixedPart ps 0 s) (refused Fixed)
+    (unless (every fixed-part ps 0 s) (refused Fixed)
     (numbers ps s))
 
 -- 205: a number is too wide, or the mutation digit above 3
-abbrev pub fitsPart : (p : Part) → Value p → Bool
-fitsPart (text t) v = true
-fitsPart mutation v = leb v 3
-fitsPart (number k) v = ltb v (10 ^ k)
+abbrev pub fits-part : (p : Part) → Value p → Bool
+fits-part (text t) v = true
+fits-part mutation v = leb v 3
+fits-part (number k) v = ltb v (10 ^ k)
 
 unfoldable pub fits : (ps : List Part) → Values ps → Bool
 fits [] v = true
-fits (p ∷ ps) v = fitsPart p (v .0) && fits ps (v .1)
+fits (p ∷ ps) v = fits-part p (v .0) && fits ps (v .1)
 
 abbrev pub spelt : (p : Part) → Value p → List ℕ
 spelt (text t) v = t

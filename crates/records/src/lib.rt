@@ -2,9 +2,9 @@
 ghost use mathlib.Core.Path.{_≡_};
 ghost use Prim.Native.Nat.{_+_, _≤_};
 ghost use lib.ListN.{length};
-ghost use Rattle.records.specs.Layout.{every, fixedPart, numbers, fits};
-ghost use Rattle.records.specs.File730.{layout730, values730, reading, read730, writing, leaves};
-ghost use Rattle.records.specs.Puts.{puts, front730, frontValues, back730, backValues};
+ghost use Rattle.records.specs.Layout.{every, fixed-part, numbers, fits};
+ghost use Rattle.records.specs.File730.{layout-730, values-730, reading, read-as-730, writing, leaves};
+ghost use Rattle.records.specs.Puts.{puts, front-730, front-values, back-730, back-values};
 
 mod parts;
 
@@ -99,7 +99,7 @@ pub fn read_730(s: &[u8]) -> Read730
 
 fn fixed_730(s: &[u8]) -> bool
     requires { ⌜ length (now s) ≡ 64 ⌝ }
-    ensures { λ r. ⌜ r ≡ every fixedPart layout730 0 (now (s .entry)) ⌝ }
+    ensures { λ r. ⌜ r ≡ every fixed-part layout-730 0 (now (s .entry)) ⌝ }
 {
     if !is_text(s, BSTNUM, b"0730") {
         return false;
@@ -115,7 +115,7 @@ fn fixed_730(s: &[u8]) -> bool
 
 fn numbers_730(s: &[u8]) -> Read730
     requires { ⌜ length (now s) ≡ 64 ⌝ }
-    ensures { λ r. ⌜ r ≡ read730 (numbers layout730 (now (s .entry))) ⌝ }
+    ensures { λ r. ⌜ r ≡ read-as-730 (numbers layout-730 (now (s .entry))) ⌝ }
 {
     let Field::Number(mutation) = number_at(s, MUTKOD, MUTKOD_WIDTH) else {
         return Read730::Refused(ReadRefusal::Digit);
@@ -161,7 +161,7 @@ pub fn write_730(buf: &mut [u8], at: usize, r: Record730) -> Written
 }
 
 fn fits_730(r: Record730) -> bool
-    ensures { λ b. ⌜ b ≡ fits layout730 (values730 r) ⌝ }
+    ensures { λ b. ⌜ b ≡ fits layout-730 (values-730 r) ⌝ }
 {
     let mutation = r.mutation as u64;
     let srtcde = r.srtcde;
@@ -185,7 +185,7 @@ fn fits_730(r: Record730) -> bool
 
 fn put_front(buf: &mut [u8], at: usize, r: Record730)
     requires { ⌜ at + 64 ≤ length (now buf) ⌝ }
-    ensures { λ _. ⌜ now (buf .exit) ≡ puts front730 (frontValues r) (now (buf .entry)) at 0 ⌝ }
+    ensures { λ _. ⌜ now (buf .exit) ≡ puts front-730 (front-values r) (now (buf .entry)) at 0 ⌝ }
 {
     put_text(buf, at + BSTNUM, b"0730");
     put_digits(buf, at + MUTKOD, MUTKOD_WIDTH, r.mutation as u64);
@@ -196,7 +196,7 @@ fn put_front(buf: &mut [u8], at: usize, r: Record730)
 
 fn put_back(buf: &mut [u8], at: usize, r: Record730)
     requires { ⌜ at + 64 ≤ length (now buf) ⌝ }
-    ensures { λ _. ⌜ now (buf .exit) ≡ puts back730 (backValues r) (now (buf .entry)) at 23 ⌝ }
+    ensures { λ _. ⌜ now (buf .exit) ≡ puts back-730 (back-values r) (now (buf .entry)) at 23 ⌝ }
 {
     put_digits(buf, at + CDHOEV, CDHOEV_WIDTH, r.cdhoev);
     put_text(buf, at + TSEENH, b"0002");

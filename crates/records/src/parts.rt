@@ -4,7 +4,7 @@ ghost use Prim.Native.Nat.{_+_, _≤_};
 ghost use lib.ListN.{length};
 ghost use lib.Seq.{sets};
 ghost use lib.Dec.{leb};
-ghost use Rattle.records.specs.Digits.{chars, same, fieldOf, digits};
+ghost use Rattle.records.specs.Digits.{chars, same, field-of, digits};
 
 pub enum Field {
     Number(u64),
@@ -35,7 +35,7 @@ pub fn is_text(s: &[u8], at: usize, text: &[u8]) -> bool
 // The number that the digits at the place say. (Twelve is the widest field of the files.)
 pub fn number_at(s: &[u8], at: usize, width: usize) -> Field
     requires { ⌜ (at + width ≤ length (now s)) × (width ≤ 12) ⌝ }
-    ensures { λ r. ⌜ r ≡ fieldOf (chars (now (s .entry)) at width) ⌝ }
+    ensures { λ r. ⌜ r ≡ field-of (chars (now (s .entry)) at width) ⌝ }
 {
     let mut n: u64 = 0;
     let mut read: usize = 0;

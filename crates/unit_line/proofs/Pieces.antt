@@ -1,38 +1,46 @@
--- A line in the pieces in which it is written. Assumes nothing.
-use Prim.Native.Nat.{ℕ, _+_, _/_, _%_}
-use mathlib.Core.List.{List, [], _∷_, _++_, append-assoc}
+-- A line in the pieces in which it is written, and how long they are. Assumes nothing.
+use Prim.Native.Nat.{ℕ, suc, _+_, _/_, _%_}
+use mathlib.Core.List.{List, [], _∷_, _++_}
 use mathlib.Core.Path.{_≡_, refl}
-use lib.ListN.{length, length-append}
+use lib.ListN.{length, set, length-append}
+use lib.Seq.{sets}
+use native.Mathlib.Omega.{arith}
+use Rattle.decimals.specs.Decimal.{space, line-feed, field}
 use Rattle.records.specs.Ascii.{ascii}
 use Rattle.records.specs.Digits.{digits}
-use Rattle.records.specs.Numbers.{readRefusal}
+use Rattle.records.specs.Numbers.{read-refusal}
 use Rattle.records.specs.declared.Record730.{Record730}
 use Rattle.records.specs.declared.Read730.the-variants.{Record, Refused}
 use Rattle.records.specs.declared.ReadRefusal.{ReadRefusal}
-use Rattle.unit_line.specs.Line.{decimal, amount, line, space, point, lineFeed}
+use Rattle.unit_line.specs.Line.{point, amount, line}
 
-abbrev pub threeDecimals : ℕ → List ℕ
-threeDecimals d = (48 + d / 10 / 10 % 10) ∷ (48 + d / 10 % 10) ∷ (48 + d % 10) ∷ space ∷ []
+abbrev pub three-decimals : ℕ → List ℕ
+three-decimals d = (48 + d / 10 / 10 % 10) ∷ (48 + d / 10 % 10) ∷ (48 + d % 10) ∷ space ∷ []
 
-pub amount-pieces : (n : ℕ) → amount n ++ (space ∷ []) ≡ (decimal (n / 1000) ++ (point ∷ [])) ++ threeDecimals (n % 1000)
+pub amount-pieces : (n : ℕ) → amount n space ≡ field (n / 1000) point ++ three-decimals (n % 1000)
 unfolding amount digits
-amount-pieces n = simp append-assoc
+amount-pieces n = refl
 
-pub length-amount : (n : ℕ) → length (amount n ++ (space ∷ [])) ≡ length (decimal (n / 1000) ++ (point ∷ [])) + 4
-length-amount n = rw (amount-pieces n, length-append (decimal (n / 1000) ++ (point ∷ [])) (threeDecimals (n % 1000)))
+pub length-amount : (n : ℕ) → length (amount n space) ≡ length (field (n / 1000) point) + 4
+length-amount n = rw (amount-pieces n) (length-append (field (n / 1000) point) (three-decimals (n % 1000)))
 
-pub row-pieces : (r : Record730) → line (Record r)
-    ≡ (decimal (r .srtcde) ++ (space ∷ [])) ++ ((decimal (r .code) ++ (space ∷ [])) ++ ((amount (r .cdhoev) ++ (space ∷ [])) ++ (decimal (r .cdeenh) ++ (lineFeed ∷ []))))
+pub row-pieces : (r : Record730) → line (Record r) ≡ field (r .srtcde) space ++ (field (r .code) space ++ (amount (r .cdhoev) space ++ field (r .cdeenh) line-feed))
 unfolding line
-row-pieces r = simp append-assoc
+row-pieces r = refl
 
-pub length-row : (r : Record730) → length (line (Record r))
-    ≡ length (decimal (r .srtcde) ++ (space ∷ [])) + (length (decimal (r .code) ++ (space ∷ [])) + (length (amount (r .cdhoev) ++ (space ∷ [])) + length (decimal (r .cdeenh) ++ (lineFeed ∷ []))))
-length-row r = rw (row-pieces r, length-append (decimal (r .srtcde) ++ (space ∷ [])), length-append (decimal (r .code) ++ (space ∷ [])), length-append (amount (r .cdhoev) ++ (space ∷ [])))
+pub length-row : (r : Record730) → length (line (Record r)) ≡ length (field (r .srtcde) space) + (length (field (r .code) space) + (length (amount (r .cdhoev) space) + length (field (r .cdeenh) line-feed)))
+length-row r = rw (row-pieces r, length-append (field (r .srtcde) space), length-append (field (r .code) space), length-append (amount (r .cdhoev) space))
 
-pub refused-pieces : (e : ReadRefusal) → line (Refused e) ≡ ascii "refused " ++ (decimal (readRefusal e) ++ (lineFeed ∷ []))
+pub refused-pieces : (e : ReadRefusal) → line (Refused e) ≡ ascii "refused " ++ field (read-refusal e) line-feed
 unfolding line
 refused-pieces e = refl
 
-pub length-refused : (e : ReadRefusal) → length (line (Refused e)) ≡ 8 + length (decimal (readRefusal e) ++ (lineFeed ∷ []))
-length-refused e = rw (refused-pieces e) (length-append (ascii "refused ") (decimal (readRefusal e) ++ (lineFeed ∷ [])))
+pub length-refused : (e : ReadRefusal) → length (line (Refused e)) ≡ 8 + length (field (read-refusal e) line-feed)
+length-refused e = rw (refused-pieces e) (length-append (ascii "refused ") (field (read-refusal e) line-feed))
+
+pub sets-four : (b : List ℕ) (i w x y z : ℕ) → set (set (set (set b i w) (i + 1) x) (i + 2) y) (i + 3) z ≡ sets b i (w ∷ x ∷ y ∷ z ∷ [])
+sets-four b i w x y z =
+    let p : i + 1 ≡ suc i = omega arith in
+    let q : i + 2 ≡ suc (suc i) = omega arith in
+    let r : i + 3 ≡ suc (suc (suc i)) = omega arith in
+    rw (p, q, r)

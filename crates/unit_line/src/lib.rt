@@ -1,65 +1,25 @@
 // The line of what was read of a record, written at a place of a lent buffer. Each function answers the place behind what it wrote.
 ghost use mathlib.Core.Path.{_≡_};
-ghost use mathlib.Core.List.{[], _∷_, _++_};
 ghost use Prim.Native.Nat.{_+_, _≤_};
 ghost use lib.ListN.{length};
-ghost use Rattle.records.specs.Numbers.{readRefusal};
-ghost use Rattle.unit_line.specs.Line.{decimal, amount, line};
-ghost use Rattle.unit_line.specs.Put.{Put};
+ghost use Rattle.decimals.specs.Decimal.{space};
+ghost use Rattle.decimals.specs.Put.{Put};
+ghost use Rattle.records.specs.Numbers.{read-refusal};
+ghost use Rattle.unit_line.specs.Line.{amount, line};
+use decimals::LINE_FEED;
+use decimals::SPACE;
+use decimals::put_field;
+use decimals::put_text;
 use records::Read730;
 use records::ReadRefusal;
 use records::Record730;
 
-const SPACE: u8 = b' ';
-
 const POINT: u8 = b'.';
-
-pub const LINE_FEED: u8 = b'\n';
-
-// How many digits the number has without zeros in front.
-fn places(n: u64) -> usize
-    ensures { λ r. ⌜ r ≡ length (decimal n) ⌝ }
-{
-    let mut k: usize = 1;
-    let mut rest = n;
-    while 9 < rest {
-        rest = rest / 10;
-        k += 1;
-    }
-    k
-}
-
-// Last digit first.
-fn put_decimal(out: &mut [u8], at: usize, n: u64) -> usize
-    requires { ⌜ at + length (decimal n) ≤ length (now out) ⌝ }
-    ensures { λ r. ⌜ Put (now (out .entry)) at (decimal n) (now (out .exit)) r ⌝ }
-{
-    let end = at + places(n);
-    let mut left = end;
-    let mut rest = n;
-    while 9 < rest {
-        left -= 1;
-        out[left] = b'0' + (rest % 10) as u8;
-        rest = rest / 10;
-    }
-    out[at] = b'0' + rest as u8;
-    end
-}
-
-// A number, and the character behind it.
-fn put_field(out: &mut [u8], at: usize, n: u64, behind: u8) -> usize
-    requires { ⌜ at + length (decimal n ++ (behind ∷ [])) ≤ length (now out) ⌝ }
-    ensures { λ r. ⌜ Put (now (out .entry)) at (decimal n ++ (behind ∷ [])) (now (out .exit)) r ⌝ }
-{
-    let end = put_decimal(out, at, n);
-    out[end] = behind;
-    end + 1
-}
 
 // An amount in thousandths, and a space behind it.
 fn put_amount(out: &mut [u8], at: usize, n: u64) -> usize
-    requires { ⌜ at + length (amount n ++ (32 ∷ [])) ≤ length (now out) ⌝ }
-    ensures { λ r. ⌜ Put (now (out .entry)) at (amount n ++ (32 ∷ [])) (now (out .exit)) r ⌝ }
+    requires { ⌜ at + length (amount n space) ≤ length (now out) ⌝ }
+    ensures { λ r. ⌜ Put (now (out .entry)) at (amount n space) (now (out .exit)) r ⌝ }
 {
     let end = put_field(out, at, n / 1000, POINT);
     let decimals = n % 1000;
@@ -81,7 +41,7 @@ fn put_row(out: &mut [u8], at: usize, r: Record730) -> usize
 }
 
 fn number_of(e: ReadRefusal) -> u64
-    ensures { λ r. ⌜ r ≡ readRefusal e ⌝ }
+    ensures { λ r. ⌜ r ≡ read-refusal e ⌝ }
 {
     match e {
         ReadRefusal::Length => 201,
@@ -89,18 +49,6 @@ fn number_of(e: ReadRefusal) -> u64
         ReadRefusal::Digit => 203,
         ReadRefusal::Mutation => 204,
     }
-}
-
-fn put_text(out: &mut [u8], at: usize, text: &[u8]) -> usize
-    requires { ⌜ at + length (now text) ≤ length (now out) ⌝ }
-    ensures { λ r. ⌜ Put (now (out .entry)) at (now (text .entry)) (now (out .exit)) r ⌝ }
-{
-    let mut i: usize = 0;
-    while i < text.len() {
-        out[at + i] = text[i];
-        i += 1;
-    }
-    at + i
 }
 
 fn put_refused(out: &mut [u8], at: usize, e: ReadRefusal) -> usize

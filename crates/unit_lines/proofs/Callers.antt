@@ -6,7 +6,7 @@ use mathlib.Core.Path.{_≡_, ap}
 use native.Mathlib.Omega.{arith}
 use lib.ListN.{length, drop, length-drop}
 use lib.Seq.{length-sets}
-use Rattle.unit_lines.specs.Machine.{longestLine, textOf}
+use Rattle.unit_lines.specs.Machine.{longest-line, text-of}
 use Rattle.unit_lines.specs.Feeding.{feeding, Feeds}
 use Rattle.unit_lines.specs.declared.text.ListMachine.{ListMachine}
 use Rattle.unit_lines.specs.declared.machine.Fed.{Fed}
@@ -17,12 +17,12 @@ module _ {m : ListMachine} {input : List ℕ} {from : ℕ} {old : List ℕ} {at 
   taken = ap (λ (x : Fed). x .taken) (p .result)
 
   pub fed-inside : from ≤ length input → from + f .taken ≤ length input
-  fed-inside h = omega (arith, taken, run-taken (length old - at) (textOf m) (drop from input) .fits, length-drop from input)
+  fed-inside h = omega (arith, taken, run-taken (length old - at) (text-of m) (drop from input) .fits, length-drop from input)
 
-  pub fed-moves : longestLine ≤ length old - at → from < length input → 1 ≤ f .taken
+  pub fed-moves : longest-line ≤ length old - at → from < length input → 1 ≤ f .taken
   fed-moves r h =
       let n = length-drop from input in
-      omega (arith, taken, run-moves (length old - at) (textOf m) (drop from input) r (omega arith))
+      omega (arith, taken, run-moves (length old - at) (text-of m) (drop from input) r (omega arith))
 
   pub fed-length : length new ≡ length old
   fed-length = rw (p .bytes) (length-sets old at (feeding m input from old at .written))

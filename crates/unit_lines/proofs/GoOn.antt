@@ -1,4 +1,4 @@
--- The parts of an input, character by character: in pieces, and as document 01 defines them. Assumes nothing.
+-- An input split at its CR LF, character by character: in pieces, and as document 01 splits it. Assumes nothing.
 use Prim.Native.Nat.{ℕ, _+_, _-_}
 use mathlib.Core.Bool.{true, false}
 use mathlib.Core.List.{List, [], _∷_, _++_, append-assoc, append-nil}
@@ -7,41 +7,41 @@ use mathlib.Core.Logic.{⊎-elim}
 use native.Mathlib.Omega.{arith}
 use lib.ListN.{length, length-append}
 use lib.Seq.{getD-append-seam, take-append-seam}
-use Rattle.unit_lines.specs.Records.{crlf, Parts, ending, onto, parts}
-use Rattle.unit_lines.specs.Machine.{lastOf, butLast, goOn}
-use Rattle.unit_line.proofs.Cases.{true-or-false}
+use Rattle.unit_lines.specs.Records.{crlf, Split, ending, onto, split}
+use Rattle.unit_lines.specs.Machine.{last-of, but-last, go-on}
+use Rattle.decimals.proofs.Cases.{true-or-false}
 
 length-last : (t : List ℕ) (c : ℕ) → length (t ++ (c ∷ [])) - 1 ≡ length t
 length-last t c = rw (length-append t (c ∷ [])) (omega arith)
 
-pub last-added : (t : List ℕ) (c : ℕ) → lastOf (t ++ (c ∷ [])) ≡ c
+pub last-added : (t : List ℕ) (c : ℕ) → last-of (t ++ (c ∷ [])) ≡ c
 last-added t c = rw (length-last t c) (getD-append-seam t c [] 0)
 
-pub but-added : (t : List ℕ) (c : ℕ) → butLast (t ++ (c ∷ [])) ≡ t
+pub but-added : (t : List ℕ) (c : ℕ) → but-last (t ++ (c ∷ [])) ≡ t
 but-added t c = rw (length-last t c) (take-append-seam t (c ∷ []))
 
-pub go-end : (t : List ℕ) (c : ℕ) (s : List ℕ) → crlf (lastOf t) c ≡ true → goOn t (c ∷ s) ≡ ending (butLast t) (goOn [] s)
-unfolding goOn
+pub go-end : (t : List ℕ) (c : ℕ) (s : List ℕ) → crlf (last-of t) c ≡ true → go-on t (c ∷ s) ≡ ending (but-last t) (go-on [] s)
+unfolding go-on
 go-end t c s e = rw e
 
-pub go-more : (t : List ℕ) (c : ℕ) (s : List ℕ) → crlf (lastOf t) c ≡ false → goOn t (c ∷ s) ≡ goOn (t ++ (c ∷ [])) s
-unfolding goOn
+pub go-more : (t : List ℕ) (c : ℕ) (s : List ℕ) → crlf (last-of t) c ≡ false → go-on t (c ∷ s) ≡ go-on (t ++ (c ∷ [])) s
+unfolding go-on
 go-more t c s e = rw e
 
 -- an input cut in two: what is left of the first piece goes on in the second
-abbrev pub joined : Parts → Parts → Parts
+abbrev pub joined : Split → Split → Split
 joined p q = record { ended = p .ended ++ q .ended; rest = q .rest }
 
-pub go-append : (t a b : List ℕ) → goOn t (a ++ b) ≡ joined (goOn t a) (goOn (goOn t a .rest) b)
-unfolding goOn
+pub go-append : (t a b : List ℕ) → go-on t (a ++ b) ≡ joined (go-on t a) (go-on (go-on t a .rest) b)
+unfolding go-on
 go-append t [] b = refl
 go-append t (c ∷ a) b =
     ⊎-elim
-    (λ (e : crlf (lastOf t) c ≡ true). rw (e, go-append [] a b))
-    (λ (e : crlf (lastOf t) c ≡ false). rw (e, go-append (t ++ (c ∷ [])) a b))
-    (true-or-false (crlf (lastOf t) c))
+    (λ (e : crlf (last-of t) c ≡ true). rw (e, go-append [] a b))
+    (λ (e : crlf (last-of t) c ≡ false). rw (e, go-append (t ++ (c ∷ [])) a b))
+    (true-or-false (crlf (last-of t) c))
 
-onto-nothing : (p : Parts) → onto [] (p .ended) (p .rest) ≡ p
+onto-nothing : (p : Split) → onto [] (p .ended) (p .rest) ≡ p
 onto-nothing p = nothing (p .ended) (p .rest)
   where
     nothing : (e : List (List ℕ)) (r : List ℕ) → onto [] e r ≡ record { ended = e; rest = r }
@@ -54,22 +54,22 @@ onto-onto t u (x ∷ e) r = ap (λ (y : List ℕ). record { ended = y ∷ e; res
 
 -- by one induction: a text whose last character is known, and no text yet
 record Same (s : List ℕ) : Type 0 where
-  begun : (t : List ℕ) (c : ℕ) → goOn (t ++ (c ∷ [])) s ≡ onto t (parts (c ∷ s) .ended) (parts (c ∷ s) .rest)
-  fresh : goOn [] s ≡ parts s
+  begun : (t : List ℕ) (c : ℕ) → go-on (t ++ (c ∷ [])) s ≡ onto t (split (c ∷ s) .ended) (split (c ∷ s) .rest)
+  fresh : go-on [] s ≡ split s
 
 same : (s : List ℕ) → Same s
-unfolding goOn parts
+unfolding go-on split
 same [] = record { begun = λ t c. refl; fresh = refl }
 same (d ∷ s) =
     let h = same s in
     record {
       begun = λ t c. ⊎-elim
           (λ (e : crlf c d ≡ true). rw (last-added t c, e, but-added t c, h .fresh, append-nil t))
-          (λ (e : crlf c d ≡ false). rw (last-added t c, e, h .begun (t ++ (c ∷ [])) d) (sym (onto-onto t (c ∷ []) (parts (d ∷ s) .ended) (parts (d ∷ s) .rest))))
+          (λ (e : crlf c d ≡ false). rw (last-added t c, e, h .begun (t ++ (c ∷ [])) d) (sym (onto-onto t (c ∷ []) (split (d ∷ s) .ended) (split (d ∷ s) .rest))))
           (true-or-false (crlf c d));
-      fresh = h .begun [] d ∙ onto-nothing (parts (d ∷ s));
+      fresh = h .begun [] d ∙ onto-nothing (split (d ∷ s));
     }
 
--- fed from the start, the machine's parts are document 01's
-pub go-parts : (s : List ℕ) → goOn [] s ≡ parts s
-go-parts s = same s .fresh
+-- fed from the start, the machine splits as document 01 does
+pub go-split : (s : List ℕ) → go-on [] s ≡ split s
+go-split s = same s .fresh

@@ -7,9 +7,9 @@ use native.Mathlib.Nat.{add-zero}
 use lib.ListN.{length, take, drop, length-append, length-drop}
 use lib.Seq.{sets, length-sets, take-take, take-all, length-take-le, drop-drop}
 use Rattle.records.proofs.Stores.{sets-append}
-use Rattle.unit_line.specs.Put.{Put}
-use Rattle.unit_lines.specs.Records.{lineOf}
-use Rattle.unit_lines.specs.Machine.{butLast, endIn, longestLine, Run, stopped, after, run}
+use Rattle.decimals.specs.Put.{Put}
+use Rattle.unit_lines.specs.Records.{line-of}
+use Rattle.unit_lines.specs.Machine.{but-last, end-in, longest-line, Run, stopped, after, run}
 use Rattle.unit_lines.specs.Feeding.{Moves}
 use Rattle.unit_lines.proofs.Run.{run-full, run-none, run-end}
 
@@ -35,34 +35,34 @@ rest-after {whole} {r} {r'} {from} {old} {at} {out} {next} {end} k l new end' h 
     }
 
 -- the run from a place of the input, where a record begins, and from a place of the buffer
-abbrev pub runFrom : List ℕ → ℕ → List ℕ → ℕ → Run
-runFrom input next out end = run (length out - end) [] (drop next input)
+abbrev pub run-from : List ℕ → ℕ → List ℕ → ℕ → Run
+run-from input next out end = run (length out - end) [] (drop next input)
 
-but-last-take : (k : ℕ) (s : List ℕ) → k ≤ length s → butLast (take k s) ≡ take (k - 1) s
+but-last-take : (k : ℕ) (s : List ℕ) → k ≤ length s → but-last (take k s) ≡ take (k - 1) s
 but-last-take k s h = rw (length-take-le k s h) (take-take (k - 1) k s (omega arith))
 
-module _ (input : List ℕ) (next : ℕ) (out : List ℕ) (end : ℕ) (e : ℕ) (found : e ≡ next + endIn 0 (drop next input)) (room : longestLine ≤ length out - end) where
+module _ (input : List ℕ) (next : ℕ) (out : List ℕ) (end : ℕ) (e : ℕ) (found : e ≡ next + end-in 0 (drop next input)) (room : longest-line ≤ length out - end) where
   abbrev pub found-line : List ℕ
-  found-line = lineOf (take (e - 1 - next) (drop next input))
+  found-line = line-of (take (e - 1 - next) (drop next input))
 
   next-end : (new : List ℕ) (end' : ℕ) → Put out end found-line new end' → length new - end' ≡ length out - end - length found-line
   next-end new end' p = rw (p .bytes, p .place, length-sets out end found-line) (omega arith)
 
-  run-on : (new : List ℕ) (end' : ℕ) → e < length input → Put out end found-line new end' → runFrom input next out end ≡ after (e + 1 - next) found-line (runFrom input (e + 1) new end')
+  run-on : (new : List ℕ) (end' : ℕ) → e < length input → Put out end found-line new end' → run-from input next out end ≡ after (e + 1 - next) found-line (run-from input (e + 1) new end')
   run-on new end' h p =
       let s = drop next input in
-      let k = endIn 0 s in
+      let k = end-in 0 s in
       let n = length-drop next input in
       let i : k < length s = omega arith in
       let a : k - 1 ≡ e - 1 - next = omega arith in
       let b : suc k ≡ e + 1 - next = omega arith in
       let j : next + suc k ≡ e + 1 = omega arith in
       let d : drop (suc k) s ≡ drop (e + 1) input = drop-drop (suc k) next input ∙ rw j in
-      let l : butLast (take k s) ≡ take (e - 1 - next) s = but-last-take k s (omega arith) ∙ rw a in
+      let l : but-last (take k s) ≡ take (e - 1 - next) s = but-last-take k s (omega arith) ∙ rw a in
       run-end (length out - end) room [] s i ∙ rw (l, d, b, next-end new end' p)
 
-  module _ {whole : Run} {from : ℕ} {old : List ℕ} {at : ℕ} (rest : Rest whole (runFrom input next out end) from old at out next end) where
-    pub rest-on : (new : List ℕ) (end' : ℕ) → e < length input → Put out end found-line new end' → Rest whole (runFrom input (e + 1) new end') from old at new (e + 1) end'
+  module _ {whole : Run} {from : ℕ} {old : List ℕ} {at : ℕ} (rest : Rest whole (run-from input next out end) from old at out next end) where
+    pub rest-on : (new : List ℕ) (end' : ℕ) → e < length input → Put out end found-line new end' → Rest whole (run-from input (e + 1) new end') from old at new (e + 1) end'
     rest-on new end' h p =
         let j : next + (e + 1 - next) ≡ e + 1 = omega arith in
         rw j at (rest-after (e + 1 - next) found-line new end' rest (run-on new end' h p) p)
@@ -71,7 +71,7 @@ module _ (input : List ℕ) (next : ℕ) (out : List ℕ) (end : ℕ) (e : ℕ) 
     rest-none i h f =
         let s = drop next input in
         let n = length-drop next input in
-        let r : runFrom input next out end ≡ record { taken = length s; written = []; held = s } = run-none (length out - end) room [] s (omega arith) in
+        let r : run-from input next out end ≡ record { taken = length s; written = []; held = s } = run-none (length out - end) room [] s (omega arith) in
         let a : Rest whole (record { taken = length s; written = []; held = s }) from old at out next end = rw r at rest in
         record {
           next = omega arith;
@@ -83,8 +83,8 @@ module _ (input : List ℕ) (next : ℕ) (out : List ℕ) (end : ℕ) (e : ℕ) 
           bytes = a .bytes;
         }
 
-pub rest-full : {whole : Run} {from : ℕ} {old : List ℕ} {at : ℕ} (input : List ℕ) (next : ℕ) (out : List ℕ) (end : ℕ) → Rest whole (runFrom input next out end) from old at out next end
-    → length out - end < longestLine → next ≤ length input → end ≤ length old → Moves whole input from old at out (record { next = next; stop = next; end = end })
+pub rest-full : {whole : Run} {from : ℕ} {old : List ℕ} {at : ℕ} (input : List ℕ) (next : ℕ) (out : List ℕ) (end : ℕ) → Rest whole (run-from input next out end) from old at out next end
+    → length out - end < longest-line → next ≤ length input → end ≤ length old → Moves whole input from old at out (record { next = next; stop = next; end = end })
 rest-full {whole} {from} {old} {at} input next out end rest h i f =
     let a : Rest whole (stopped []) from old at out next end = rw (run-full (length out - end) [] (drop next input) h) at rest in
     let z : next - next ≡ 0 = omega arith in
@@ -99,7 +99,7 @@ rest-full {whole} {from} {old} {at} input next out end rest h i f =
     }
 
 -- a line within the room for a longest one
-pub put-inside : {out l new : List ℕ} {end end' : ℕ} → Put out end l new end' → length l ≤ longestLine → longestLine ≤ length out - end → end' ≤ length out
+pub put-inside : {out l new : List ℕ} {end end' : ℕ} → Put out end l new end' → length l ≤ longest-line → longest-line ≤ length out - end → end' ≤ length out
 put-inside {out} {l} {new} {end} {end'} p h r = omega (arith, p .place)
 
 pub put-length : {out l new : List ℕ} {end end' : ℕ} → Put out end l new end' → length new ≡ length out

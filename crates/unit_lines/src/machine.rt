@@ -4,16 +4,16 @@ ghost use mathlib.Core.List.{[]};
 ghost use Prim.Native.Nat.{_+_, _-_, _≤_, _<_};
 ghost use lib.ListN.{length, drop};
 ghost use lib.Dec.{leb};
-ghost use Rattle.unit_line.specs.Put.{Put};
-ghost use Rattle.unit_lines.specs.Records.{crlf, lineOf};
-ghost use Rattle.unit_lines.specs.Machine.{longestLine, butLast, endIn, run, keep, textOf};
+ghost use Rattle.decimals.specs.Put.{Put};
+ghost use Rattle.unit_lines.specs.Records.{crlf, line-of};
+ghost use Rattle.unit_lines.specs.Machine.{longest-line, but-last, end-in, run, keep, text-of};
 ghost use Rattle.unit_lines.specs.Feeding.{Feeds, Finishes, Moves};
 use crate::text::ListMachine;
 use crate::text::grown;
 use crate::text::last_of;
 use crate::text::length_of;
 use crate::text::no_text;
-use unit_line::LINE_FEED;
+use decimals::LINE_FEED;
 use unit_line::put_line;
 
 const CARRIAGE_RETURN: u8 = b'\r';
@@ -33,7 +33,7 @@ fn ends(last: u8, c: u8) -> bool
 // The place of the LF that ends the record, or the input's length. `before` is the character before the place.
 fn find_end(input: &[u8], from: usize, before: u8) -> usize
     requires { ⌜ from ≤ length (now input) ⌝ }
-    ensures { λ r. ⌜ r ≡ from + endIn before (drop from (now (input .entry))) ⌝ }
+    ensures { λ r. ⌜ r ≡ from + end-in before (drop from (now (input .entry))) ⌝ }
 {
     let mut last = before;
     let mut i = from;
@@ -49,7 +49,7 @@ fn find_end(input: &[u8], from: usize, before: u8) -> usize
 }
 
 fn has_room(room: usize, at: usize) -> bool
-    ensures { λ r. ⌜ r ≡ leb longestLine (room - at) ⌝ }
+    ensures { λ r. ⌜ r ≡ leb longest-line (room - at) ⌝ }
 {
     if room < at {
         return false;
@@ -58,8 +58,8 @@ fn has_room(room: usize, at: usize) -> bool
 }
 
 fn list_text(text: &[u8], out: &mut [u8], at: usize) -> usize
-    requires { ⌜ at + longestLine ≤ length (now out) ⌝ }
-    ensures { λ r. ⌜ Put (now (out .entry)) at (lineOf (now (text .entry))) (now (out .exit)) r ⌝ }
+    requires { ⌜ at + longest-line ≤ length (now out) ⌝ }
+    ensures { λ r. ⌜ Put (now (out .entry)) at (line-of (now (text .entry))) (now (out .exit)) r ⌝ }
 {
     put_line(out, at, records::read_730(text))
 }
@@ -95,8 +95,8 @@ fn list_whole(input: &[u8], from: usize, out: &mut [u8], at: usize) -> Moved
 
 // The line of the record whose text and CR the machine holds.
 fn list_begun(m: ListMachine, out: &mut [u8], at: usize) -> usize
-    requires { ⌜ (0 < length (textOf m)) × (at + longestLine ≤ length (now out)) ⌝ }
-    ensures { λ r. ⌜ Put (now (out .entry)) at (lineOf (butLast (textOf m))) (now (out .exit)) r ⌝ }
+    requires { ⌜ (0 < length (text-of m)) × (at + longest-line ≤ length (now out)) ⌝ }
+    ensures { λ r. ⌜ Put (now (out .entry)) at (line-of (but-last (text-of m))) (now (out .exit)) r ⌝ }
 {
     let len = length_of(m);
     let bytes = m.bytes;
@@ -117,7 +117,7 @@ pub fn new_machine() -> ListMachine
 
 // The record that has begun, and then those that lie in the input whole.
 fn feed_on(m: ListMachine, input: &[u8], from: usize, out: &mut [u8], at: usize) -> Fed
-    requires { ⌜ (from ≤ length (now input)) × (longestLine ≤ length (now out) - at) ⌝ }
+    requires { ⌜ (from ≤ length (now input)) × (longest-line ≤ length (now out) - at) ⌝ }
     ensures { λ r. ⌜ Feeds m (now (input .entry)) from (now (out .entry)) at (now (out .exit)) r ⌝ }
 {
     let e = find_end(input, from, last_of(m));

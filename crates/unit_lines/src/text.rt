@@ -3,7 +3,7 @@ ghost use mathlib.Core.Path.{_≡_};
 ghost use mathlib.Core.List.{[], _++_};
 ghost use Prim.Native.Nat.{min};
 ghost use lib.ListN.{length};
-ghost use Rattle.unit_lines.specs.Machine.{lastOf, textOf, keep};
+ghost use Rattle.unit_lines.specs.Machine.{last-of, text-of, keep};
 
 // A record of 64 characters and CR LF.
 const KEPT_MOST: usize = 66;
@@ -30,14 +30,14 @@ fn least(a: usize, b: usize) -> usize
 }
 
 pub fn length_of(m: ListMachine) -> usize
-    ensures { λ r. ⌜ r ≡ length (textOf m) ⌝ }
+    ensures { λ r. ⌜ r ≡ length (text-of m) ⌝ }
 {
     least(m.len, KEPT_MOST)
 }
 
 // The last character of the text, 0 where there is none.
 pub fn last_of(m: ListMachine) -> u8
-    ensures { λ r. ⌜ r ≡ lastOf (textOf m) ⌝ }
+    ensures { λ r. ⌜ r ≡ last-of (text-of m) ⌝ }
 {
     let len = length_of(m);
     if len == 0 {
@@ -49,8 +49,8 @@ pub fn last_of(m: ListMachine) -> u8
 
 // More characters behind a text that is kept already.
 fn more_kept(m: ListMachine, more: &[u8]) -> ListMachine
-    requires { ⌜ m ≡ keep (textOf m) ⌝ }
-    ensures { λ r. ⌜ r ≡ keep (textOf m ++ now (more .entry)) ⌝ }
+    requires { ⌜ m ≡ keep (text-of m) ⌝ }
+    ensures { λ r. ⌜ r ≡ keep (text-of m ++ now (more .entry)) ⌝ }
 {
     let mut bytes = m.bytes;
     let len = m.len;
@@ -70,7 +70,7 @@ fn more_kept(m: ListMachine, more: &[u8]) -> ListMachine
 
 // What is kept of the text and of more characters behind it.
 pub fn grown(m: ListMachine, more: &[u8]) -> ListMachine
-    ensures { λ r. ⌜ r ≡ keep (textOf m ++ now (more .entry)) ⌝ }
+    ensures { λ r. ⌜ r ≡ keep (text-of m ++ now (more .entry)) ⌝ }
 {
     let len = length_of(m);
     let bytes = m.bytes;

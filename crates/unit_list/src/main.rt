@@ -1,7 +1,7 @@
 // The unit list of document 01: records from standard input, lines to standard output, both in large pieces.
 ghost use Prim.Native.Nat.{_≤_};
 ghost use lib.ListN.{length};
-ghost use Rattle.unit_lines.specs.Machine.{longestLine};
+ghost use Rattle.unit_lines.specs.Machine.{longest-line};
 use libc::STDIN_FILENO;
 use libc::STDOUT_FILENO;
 use unit_lines::ListMachine;
@@ -22,7 +22,7 @@ fn put_out(lines: &[u8]) -> bool {
 
 // Where the lines fill the buffer they are written, and the machine takes the rest.
 fn list_piece(m: ListMachine, input: &[u8], out: &mut [u8]) -> Piece
-    requires { ⌜ longestLine ≤ length (now out) ⌝ }
+    requires { ⌜ longest-line ≤ length (now out) ⌝ }
 {
     let mut machine = m;
     let mut from: usize = 0;
@@ -45,7 +45,7 @@ fn list_piece(m: ListMachine, input: &[u8], out: &mut [u8]) -> Piece
 }
 
 fn read_piece(m: ListMachine, input: &mut [u8], out: &mut [u8]) -> Piece
-    requires { ⌜ longestLine ≤ length (now out) ⌝ }
+    requires { ⌜ longest-line ≤ length (now out) ⌝ }
 {
     let got = libc::read(STDIN_FILENO, input);
     if got < 0 {
@@ -63,7 +63,7 @@ fn read_piece(m: ListMachine, input: &mut [u8], out: &mut [u8]) -> Piece
 
 // A proved loop has to end, and nothing says that an input does: it counts down from a number that no run uses up.
 fn list_all(input: &mut [u8], out: &mut [u8]) -> ListMachine
-    requires { ⌜ longestLine ≤ length (now out) ⌝ }
+    requires { ⌜ longest-line ≤ length (now out) ⌝ }
 {
     let mut machine = unit_lines::new_machine();
     let mut turns = u64::MAX;

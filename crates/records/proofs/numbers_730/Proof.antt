@@ -4,7 +4,7 @@ use denote.Ref.{now}
 use borrow.Author.Needs.{needs}
 use borrow.Author.Tests.{le-leb, lt-leb}
 use native.Mathlib.Omega.{arith}
-use Rattle.records.specs.Digits.{chars, fieldOf}
+use Rattle.records.specs.Digits.{chars, field-of}
 use Rattle.records.specs.Layout.{every, values, numbers}
 use Rattle.records.proofs.Chars.{length-chars}
 use Rattle.records.proofs.Numbers.{field-digits, field-said, field-below, field-none}
@@ -12,19 +12,19 @@ use Rattle.records.specs.declared.parts.Field.the-variants.{Number}
 use Rattle.records.proofs.numbers_730.Statement.{statement}
 use Rattle.records.proofs.numbers_730.Tie as tie
 
-mutation-read : (c : tie.After-known-told) → fieldOf (chars (now (c .before .before .before .before .before .args .s)) 4 1) ≡ Number (c .before .mutation .given .0 .0)
+mutation-read : (c : tie.After-known-told) → field-of (chars (now (c .before .before .before .before .before .args .s)) 4 1) ≡ Number (c .before .mutation .given .0 .0)
 mutation-read c = sym (c .before .before .before .number-at .ensures) ∙ c .before .mutation .given .1
 
-srtcde-read : (c : tie.After-known-told2) → fieldOf (chars (now (c .before .before .before .before .before .before .before .before .before .args .s)) 9 6) ≡ Number (c .before .srtcde .given .0 .0)
+srtcde-read : (c : tie.After-known-told2) → field-of (chars (now (c .before .before .before .before .before .before .before .before .before .args .s)) 9 6) ≡ Number (c .before .srtcde .given .0 .0)
 srtcde-read c = sym (c .before .before .before .number-at2 .ensures) ∙ c .before .srtcde .given .1
 
-code-read : (c : tie.After-known-told3) → fieldOf (chars (now (c .before .before .before .before .before .before .before .before .before .before .before .before .before .args .s)) 15 8) ≡ Number (c .before .code .given .0 .0)
+code-read : (c : tie.After-known-told3) → field-of (chars (now (c .before .before .before .before .before .before .before .before .before .before .before .before .before .args .s)) 15 8) ≡ Number (c .before .code .given .0 .0)
 code-read c = sym (c .before .before .before .number-at3 .ensures) ∙ c .before .code .given .1
 
-cdhoev-read : (c : tie.After-known-told4) → fieldOf (chars (now (c .before .before .before .before .before .before .before .before .before .before .before .before .before .before .before .before .before .args .s)) 23 12) ≡ Number (c .before .cdhoev .given .0 .0)
+cdhoev-read : (c : tie.After-known-told4) → field-of (chars (now (c .before .before .before .before .before .before .before .before .before .before .before .before .before .before .before .before .before .args .s)) 23 12) ≡ Number (c .before .cdhoev .given .0 .0)
 cdhoev-read c = sym (c .before .before .before .number-at4 .ensures) ∙ c .before .cdhoev .given .1
 
-cdeenh-read : (c : tie.After-known-told5) → fieldOf (chars (now (c .before .before .before .before .before .before .before .before .before .before .before .before .before .before .before .before .before .before .before .before .before .args .s)) 39 6) ≡ Number (c .before .cdeenh .given .0 .0)
+cdeenh-read : (c : tie.After-known-told5) → field-of (chars (now (c .before .before .before .before .before .before .before .before .before .before .before .before .before .before .before .before .before .before .before .before .before .args .s)) 39 6) ≡ Number (c .before .cdeenh .given .0 .0)
 cdeenh-read c = sym (c .before .before .before .number-at5 .ensures) ∙ c .before .cdeenh .given .1
 
 returns : tie.Need-returns

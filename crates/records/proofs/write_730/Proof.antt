@@ -7,7 +7,7 @@ use borrow.Author.Tests.{not-true, not-false, leb-true}
 use native.Mathlib.Omega.{arith}
 use lib.ListN.{length}
 use Rattle.records.specs.Layout.{answer, leaving}
-use Rattle.records.specs.File730.{layout730, values730, writing, leaves}
+use Rattle.records.specs.File730.{layout-730, values-730, writing, leaves}
 use Rattle.records.proofs.Spelling.{puts-stored}
 use Rattle.records.proofs.write_730.Statement.{statement}
 use Rattle.records.proofs.write_730.Tie as tie
@@ -39,7 +39,7 @@ unfolding leaves leaving writing answer
 returns-3 c =
     let e = sym (c .before .before .before .before .before .before .before .before .before .before .before .fits-730 .ensures) ∙ not-false _ (c .before .before .before .before .before .before .before .before .before .if1 .left) in
     let f = sym (c .before .before .before .before .before .before .before .before .before .before .has-room .ensures) ∙ not-false _ (c .before .before .before .before .before .before .before .before .if2 .left) in
-    (rw (e, f), rw (e, f, c .before .before .put-back .ensures, c .before .before .before .before .before .before .put-front .ensures) (puts-stored layout730 (values730 _) _ _ (room (c .before .before .before .before .before .before .before .before))))
+    (rw (e, f), rw (e, f, c .before .before .put-back .ensures, c .before .before .before .before .before .before .put-front .ensures) (puts-stored layout-730 (values-730 _) _ _ (room (c .before .before .before .before .before .before .before .before))))
 
 pub write-730-spec : {M : Type 1} → statement M
 write-730-spec =

@@ -1,10 +1,10 @@
 use Prim.Native.Nat.{_+_, _/_, _%_}
 use mathlib.Core.Path.{refl}
 use native.Mathlib.Omega.{arith}
-use Rattle.unit_line.specs.Line.{space}
+use Rattle.decimals.specs.Decimal.{space}
 use lib.ListN.{length-set}
-use Rattle.unit_line.proofs.Pieces.{amount-pieces, length-amount}
-use Rattle.unit_line.proofs.Sets.{put-on, sets-four}
+use Rattle.unit_line.proofs.Pieces.{amount-pieces, length-amount, sets-four}
+use Rattle.decimals.proofs.Puts.{put-on}
 use borrow.Author.Needs.{needs}
 use Rattle.unit_line.proofs.put_amount.Statement.{statement}
 use Rattle.unit_line.proofs.put_amount.Tie as tie

@@ -1,6 +1,6 @@
 use native.Mathlib.Omega.{arith}
 use Rattle.unit_line.proofs.Pieces.{refused-pieces, length-refused}
-use Rattle.unit_line.proofs.Sets.{put-on}
+use Rattle.decimals.proofs.Puts.{put-on}
 use borrow.Author.Needs.{needs}
 use Rattle.unit_line.proofs.put_refused.Statement.{statement}
 use Rattle.unit_line.proofs.put_refused.Tie as tie

@@ -1,6 +1,6 @@
 use native.Mathlib.Omega.{arith}
 use Rattle.unit_line.proofs.Pieces.{row-pieces, length-row}
-use Rattle.unit_line.proofs.Sets.{put-on}
+use Rattle.decimals.proofs.Puts.{put-on}
 use borrow.Author.Needs.{needs}
 use Rattle.unit_line.proofs.put_row.Statement.{statement}
 use Rattle.unit_line.proofs.put_row.Tie as tie

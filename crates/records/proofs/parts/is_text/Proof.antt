@@ -16,7 +16,6 @@ Inv-loop s at text seen₀ seen = (seen ≤ length text) × (same text (chars s 
 abbrev μ-loop : tie.MeasureT-loop
 μ-loop s at text seen₀ seen = length text - seen
 
--- src/parts.rt:26:13
 returns : tie.Need-returns Inv-loop μ-loop
 returns c = sym (c .before .before .before .before .loop .inv .1 ∙ same-off _ _ _ _ (c .before .before .before .loop-test .taken) (c .before .before .before .before .before .pre) (c .if1 .taken))
 

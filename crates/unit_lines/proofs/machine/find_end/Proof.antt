@@ -5,13 +5,13 @@ use native.Mathlib.Omega.{arith}
 use borrow.Author.Needs.{needs}
 use denote.Ref.{now}
 use lib.ListN.{length, drop}
-use Rattle.unit_lines.specs.Machine.{endIn}
+use Rattle.unit_lines.specs.Machine.{end-in}
 use Rattle.unit_lines.proofs.Ends.{end-found, end-later, end-over}
 use Rattle.unit_lines.proofs.machine.find_end.Statement.{statement}
 use Rattle.unit_lines.proofs.machine.find_end.Tie as tie
 
 abbrev Inv-loop : tie.InvT-loop
-Inv-loop input from before last₀ i₀ last i = (i ≤ length input) × (i + endIn last (drop i input) ≡ from + endIn before (drop from input))
+Inv-loop input from before last₀ i₀ last i = (i ≤ length input) × (i + end-in last (drop i input) ≡ from + end-in before (drop from input))
 
 abbrev μ-loop : tie.MeasureT-loop
 μ-loop input from before last₀ i₀ last i = length input - i

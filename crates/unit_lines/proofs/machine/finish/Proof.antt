@@ -4,7 +4,7 @@ use native.Mathlib.Omega.{arith}
 use borrow.Author.Tests.{leb-true, leb-false}
 use denote.Ref.{now}
 use lib.ListN.{length}
-use Rattle.unit_lines.specs.Machine.{longestLine, textOf}
+use Rattle.unit_lines.specs.Machine.{longest-line, text-of}
 use Rattle.unit_lines.proofs.Kept.{text-inside, take-text}
 use Rattle.unit_lines.proofs.Longest.{longest}
 use Rattle.unit_lines.proofs.Whole.{put-inside}
@@ -30,7 +30,7 @@ slice-aggregate-list-text c = c .before .before .before .before .before .length-
 
 list-text-requires : tie.Need-list-text-requires
 list-text-requires c κs =
-    let r : longestLine ≤ length (now (c .before .before .before .before .before .before .before .before .args .out)) - c .before .before .before .before .before .before .before .before .args .at = leb-true _ _ (sym (c .before .before .before .before .has-room .ensures) ∙ c .before .before .before .if2 .taken) in
+    let r : longest-line ≤ length (now (c .before .before .before .before .before .before .before .before .args .out)) - c .before .before .before .before .before .before .before .before .args .at = leb-true _ _ (sym (c .before .before .before .before .has-room .ensures) ∙ c .before .before .before .if2 .taken) in
     omega arith
 
 sub-result : tie.Need-sub-result
@@ -41,9 +41,9 @@ same-length c = search needs
 
 returns-2 : tie.Need-returns-2
 returns-2 c =
-    let r : longestLine ≤ length (now (c .before .before .before .before .before .before .before .before .before .before .before .args .out)) - c .before .before .before .before .before .before .before .before .before .before .before .args .at = leb-true _ _ (sym (c .before .before .before .before .before .before .before .has-room .ensures) ∙ c .before .before .before .before .before .before .if2 .taken) in
+    let r : longest-line ≤ length (now (c .before .before .before .before .before .before .before .before .before .before .before .args .out)) - c .before .before .before .before .before .before .before .before .before .before .before .args .at = leb-true _ _ (sym (c .before .before .before .before .before .before .before .has-room .ensures) ∙ c .before .before .before .before .before .before .if2 .taken) in
     let p = rw (take-text (c .before .before .before .before .before .before .before .before .before .before .before .args .m) _ (c .before .before .before .before .before .before .before .before .before .length-of .ensures)) at (c .before .before .list-text .ensures) in
-    finish-line (c .before .before .before .before .before .before .before .before .before .before .before .args .m) _ _ _ _ r (omega (arith, c .before .before .before .before .before .before .before .before .before .length-of .ensures, c .before .before .before .before .before .before .before .before .if1 .left)) p (put-inside p (longest (textOf (c .before .before .before .before .before .before .before .before .before .before .before .args .m))) r)
+    finish-line (c .before .before .before .before .before .before .before .before .before .before .before .args .m) _ _ _ _ r (omega (arith, c .before .before .before .before .before .before .before .before .before .length-of .ensures, c .before .before .before .before .before .before .before .before .if1 .left)) p (put-inside p (longest (text-of (c .before .before .before .before .before .before .before .before .before .before .before .args .m))) r)
 
 returns-3 : tie.Need-returns-3
 returns-3 c = finish-full (c .before .before .before .before .before .args .m) _ _ (leb-false _ _ (sym (c .before .has-room .ensures) ∙ c .if2 .left))

@@ -1,6 +1,6 @@
 use native.Mathlib.Omega.{arith}
 use denote.Ref.{now}
-use Rattle.unit_lines.specs.Records.{lineOf}
+use Rattle.unit_lines.specs.Records.{line-of}
 use Rattle.unit_lines.proofs.Longest.{longest}
 use borrow.Author.Needs.{needs}
 use Rattle.unit_lines.proofs.machine.list_text.Statement.{statement}
@@ -10,14 +10,14 @@ read-730-requires : tie.Need-read-730-requires
 read-730-requires c κs = search needs
 
 put-line-requires : tie.Need-put-line-requires
-unfolding lineOf
+unfolding line-of
 put-line-requires c κs = rw (c .read-730 .ensures) (omega (arith, longest (now (c .before .before .before .before .args .text))))
 
 same-length : tie.Need-same-length
 same-length c = search needs
 
 returns : tie.Need-returns
-unfolding lineOf
+unfolding line-of
 returns c = rw (c .before .before .before .read-730 .ensures) at (c .before .before .put-line .ensures)
 
 pub list-text-spec : {M : Type 1} → statement M

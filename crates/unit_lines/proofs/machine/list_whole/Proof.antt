@@ -5,16 +5,16 @@ use native.Mathlib.Omega.{arith}
 use borrow.Author.Needs.{needs}
 use borrow.Author.Tests.{leb-true, leb-false}
 use lib.ListN.{length}
-use Rattle.unit_lines.specs.Machine.{longestLine, run}
+use Rattle.unit_lines.specs.Machine.{longest-line, run}
 use Rattle.unit_lines.proofs.Ends.{found-inside}
 use Rattle.unit_lines.proofs.Longest.{longest}
-use Rattle.unit_lines.proofs.Whole.{Rest, runFrom, rest-on, rest-none, rest-full, put-inside, put-length}
+use Rattle.unit_lines.proofs.Whole.{Rest, run-from, rest-on, rest-none, rest-full, put-inside, put-length}
 use Rattle.unit_lines.proofs.machine.list_whole.Statement.{statement}
 use Rattle.unit_lines.proofs.machine.list_whole.Tie as tie
 
 abbrev Inv-loop : tie.InvT-loop
 Inv-loop input from out₀ at next₀ end₀ out next end =
-    (next ≤ length input) × (end ≤ length out₀) × (length out ≡ length out₀) × Rest (runFrom input from out₀ at) (runFrom input next out end) from out₀ at out next end
+    (next ≤ length input) × (end ≤ length out₀) × (length out ≡ length out₀) × Rest (run-from input from out₀ at) (run-from input next out end) from out₀ at out next end
 
 abbrev μ-loop : tie.MeasureT-loop
 μ-loop input from out₀ at next₀ end₀ out next end = length input - next
@@ -50,7 +50,7 @@ part-list-text-end c = omega (arith, found-inside _ _ _ (c .before .before .befo
 
 list-text-requires : tie.Need-list-text-requires Inv-loop μ-loop
 list-text-requires c κs =
-    let r : longestLine ≤ length (c .before .before .before .before .before .before .loop .out) - c .before .before .before .before .before .before .loop .end = leb-true _ _ (sym (c .before .before .before .before .before .has-room .ensures) ∙ c .before .before .before .before .if1 .taken) in
+    let r : longest-line ≤ length (c .before .before .before .before .before .before .loop .out) - c .before .before .before .before .before .before .loop .end = leb-true _ _ (sym (c .before .before .before .before .before .has-room .ensures) ∙ c .before .before .before .before .if1 .taken) in
     omega arith
 
 add-next : tie.Need-add-next Inv-loop μ-loop

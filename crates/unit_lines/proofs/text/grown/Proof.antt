@@ -3,7 +3,7 @@ use mathlib.Core.Path.{_≡_, sym, ap, _∙_}
 use native.Mathlib.Omega.{arith}
 use denote.Ref.{now}
 use lib.ListN.{length, length-take}
-use Rattle.unit_lines.specs.Machine.{textOf, keep}
+use Rattle.unit_lines.specs.Machine.{text-of, keep}
 use Rattle.unit_lines.proofs.Kept.{is-kept, keep-more, take-text}
 use borrow.Author.Needs.{needs}
 use Rattle.unit_lines.proofs.text.grown.Statement.{statement}
@@ -29,7 +29,7 @@ more-kept-requires-2 c κs = is-kept _ _ (c .more-kept .ensures)
 
 returns : tie.Need-returns
 returns c =
-    let t = textOf (c .before .before .before .before .before .before .before .args .m) in
+    let t = text-of (c .before .before .before .before .before .before .before .args .m) in
     let e : c .before .more-kept .result ≡ keep t = c .before .more-kept .ensures ∙ (keep-more _ [] _ (c .before .before .before .no-text .ensures) ∙ ap keep (take-text (c .before .before .before .before .before .before .before .args .m) _ (c .before .before .before .before .before .length-of .ensures))) in
     c .more-kept2 .ensures ∙ keep-more _ t (now (c .before .before .before .before .before .before .before .args .more)) e
 

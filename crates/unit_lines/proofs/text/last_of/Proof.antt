@@ -3,7 +3,7 @@ use mathlib.Core.Path.{_≡_, sym, _∙_}
 use native.Mathlib.Omega.{arith}
 use lib.ListN.{length, length-take}
 use lib.Seq.{getD-take}
-use Rattle.unit_lines.specs.Machine.{textOf}
+use Rattle.unit_lines.specs.Machine.{text-of}
 use Rattle.unit_lines.proofs.Kept.{last-none}
 use borrow.Author.Needs.{needs}
 use Rattle.unit_lines.proofs.text.last_of.Statement.{statement}
@@ -13,7 +13,7 @@ length-of-requires : tie.Need-length-of-requires
 length-of-requires c κs = search needs
 
 returns : tie.Need-returns
-returns c = sym (last-none (textOf (c .before .before .args .m)) (sym (c .before .length-of .ensures) ∙ c .if1 .taken))
+returns c = sym (last-none (text-of (c .before .before .args .m)) (sym (c .before .length-of .ensures) ∙ c .if1 .taken))
 
 sub-result : tie.Need-sub-result
 sub-result c = search needs

@@ -5,7 +5,7 @@ use borrow.Author.Needs.{needs}
 use denote.Ref.{now}
 use lib.ListN.{length, take, length-set}
 use lib.Seq.{sets, take-all}
-use Rattle.unit_line.proofs.Sets.{sets-next}
+use Rattle.decimals.proofs.Puts.{sets-next}
 use Rattle.unit_lines.proofs.Kept.{text-most, text-length, more-all, more-cut}
 use Rattle.unit_lines.proofs.text.more_kept.Statement.{statement}
 use Rattle.unit_lines.proofs.text.more_kept.Tie as tie

@@ -4,10 +4,10 @@ use mathlib.Core.Path.{_≡_, refl, ap}
 use native.Mathlib.Omega.{arith}
 use borrow.Author.Needs.{needs}
 use lib.ListN.{length}
-use Rattle.unit_line.specs.Line.{decimal}
-use Rattle.unit_line.proofs.Decimal.{decimal-one, length-decimal-more, decimal-least, decimal-word}
-use Rattle.unit_line.proofs.places.Statement.{statement}
-use Rattle.unit_line.proofs.places.Tie as tie
+use Rattle.decimals.specs.Decimal.{decimal}
+use Rattle.decimals.proofs.Decimal.{decimal-one, length-decimal-more, decimal-least, decimal-64}
+use Rattle.decimals.proofs.places.Statement.{statement}
+use Rattle.decimals.proofs.places.Tie as tie
 
 abbrev Inv-loop : tie.InvT-loop
 Inv-loop n k₀ rest₀ k rest = (rest ≤ n) × (k + length (decimal rest) ≡ 1 + length (decimal n))
@@ -16,10 +16,10 @@ abbrev μ-loop : tie.MeasureT-loop
 μ-loop n k₀ rest₀ k rest = rest
 
 loop-holds : tie.Need-loop-holds Inv-loop μ-loop
-loop-holds c = (search needs, refl)
+loop-holds c = (search needs, omega arith)
 
 add-k : tie.Need-add-k Inv-loop μ-loop
-add-k c = omega (arith, decimal-word (c .before .before .args .n) (search needs), decimal-least (c .before .loop .rest))
+add-k c = omega (arith, decimal-64 (c .before .before .args .n) (search needs), decimal-least (c .before .loop .rest))
 
 loop-less : tie.Need-loop-less Inv-loop μ-loop
 loop-less c = search needs

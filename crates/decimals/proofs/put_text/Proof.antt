@@ -5,9 +5,9 @@ use borrow.Author.Needs.{needs}
 use denote.Ref.{now}
 use lib.ListN.{length, take, length-set}
 use lib.Seq.{sets, take-all}
-use Rattle.unit_line.proofs.Sets.{sets-next}
-use Rattle.unit_line.proofs.put_text.Statement.{statement}
-use Rattle.unit_line.proofs.put_text.Tie as tie
+use Rattle.decimals.proofs.Puts.{sets-next}
+use Rattle.decimals.proofs.put_text.Statement.{statement}
+use Rattle.decimals.proofs.put_text.Tie as tie
 
 abbrev Inv-loop : tie.InvT-loop
 Inv-loop out₀ at text i₀ out i = (i ≤ length text) × (length out ≡ length out₀) × (out ≡ sets out₀ at (take i text))
@@ -18,39 +18,30 @@ abbrev μ-loop : tie.MeasureT-loop
 loop-holds : tie.Need-loop-holds Inv-loop μ-loop
 loop-holds c = (search needs, refl, refl)
 
--- src/line.rt:96:23
 shared-slice-read-out : tie.Need-shared-slice-read-out Inv-loop μ-loop
 shared-slice-read-out c = search needs
 
--- src/line.rt:96:13
 add-out : tie.Need-add-out Inv-loop μ-loop
 add-out c = search needs
 
--- src/line.rt:96:9
 slice-write-out : tie.Need-slice-write-out Inv-loop μ-loop
 slice-write-out c = search needs
 
--- src/line.rt:97:9
 add-i : tie.Need-add-i Inv-loop μ-loop
 add-i c = search needs
 
--- src/line.rt:95:5
 loop-less : tie.Need-loop-less Inv-loop μ-loop
 loop-less c = search needs
 
--- src/line.rt:95:5
 loop-again : tie.Need-loop-again Inv-loop μ-loop
 loop-again c = (search needs, simp length-set (omega arith), rw (c .before .before .loop .inv .2) (sets-next _ _ _ _ (c .before .loop-test .taken)))
 
--- src/line.rt:99:5
 add-result : tie.Need-add-result Inv-loop μ-loop
 add-result c = search needs
 
--- src/line.rt:90:1
 same-length : tie.Need-same-length Inv-loop μ-loop
 same-length c = c .before .loop .inv .1
 
--- src/line.rt:90:1
 returns : tie.Need-returns Inv-loop μ-loop
 returns c =
     let e = take-all (c .before .loop .i) (now (c .before .before .args .text)) (c .loop-test .left) in

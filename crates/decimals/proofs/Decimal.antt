@@ -1,16 +1,14 @@
 -- A number without zeros in front, digit by digit, and how many digits it has. Assumes nothing.
 use Prim.Native.Nat.{ℕ, zero, suc, _+_, _-_, _/_, _%_, _^_, _<_, _≤_}
 use mathlib.Core.List.{List, [], _∷_, _++_}
-use mathlib.Core.Path.{_≡_, sym, ap, _∙_}
+use mathlib.Core.Path.{_≡_, sym, _∙_}
 use mathlib.Core.Logic.{⊎-elim}
 use native.Mathlib.Omega.{arith}
 use native.Mathlib.Nat.{pow-suc, not-suc-le-zero}
 use borrow.Author.Tests.{lt-ltb, le-ltb}
-use lib.ListN.{length, set, length-append}
-use lib.Seq.{sets}
-use Rattle.unit_line.specs.Line.{decimals, decimal}
-use Rattle.unit_line.proofs.Cases.{lt-or-ge}
-use Rattle.unit_line.proofs.Sets.{sets-last}
+use lib.ListN.{length, length-append}
+use Rattle.decimals.specs.Decimal.{decimals, decimal, field}
+use Rattle.decimals.proofs.Cases.{lt-or-ge}
 
 decimals-one : (k n : ℕ) → n < 10 → decimals (suc k) n ≡ (48 + n) ∷ []
 unfolding decimals
@@ -58,9 +56,21 @@ decimal-most (suc k) n h =
     omega (arith, length-decimal-more n m))
     (lt-or-ge n 10)
 
-pub decimal-word : (n : ℕ) → n < 2 ^ 64 → length (decimal n) ≤ 20
-decimal-word n h = decimal-most 19 n (omega arith)
+pub decimal-32 : (n : ℕ) → n < 2 ^ 32 → length (decimal n) ≤ 10
+decimal-32 n h = decimal-most 9 n (omega arith)
 
--- the last digit, and then those before it
-pub decimal-turn : (b : List ℕ) (at n : ℕ) → 9 < n → sets b at (decimal n) ≡ sets (set b (at + length (decimal (n / 10))) (48 + n % 10)) at (decimal (n / 10))
-decimal-turn b at n h = ap (sets b at) (decimal-more n h) ∙ sets-last b at (decimal (n / 10)) (48 + n % 10)
+pub decimal-64 : (n : ℕ) → n < 2 ^ 64 → length (decimal n) ≤ 20
+decimal-64 n h = decimal-most 19 n (omega arith)
+
+pub length-field : (n behind : ℕ) → length (field n behind) ≡ length (decimal n) + 1
+unfolding field
+length-field n behind = length-append (decimal n) (behind ∷ [])
+
+pub field-most : (k n behind : ℕ) → n < 10 ^ suc k → length (field n behind) ≤ suc k + 1
+field-most k n behind h = omega (arith, length-field n behind, decimal-most k n h)
+
+pub field-32 : (n behind : ℕ) → n < 2 ^ 32 → length (field n behind) ≤ 11
+field-32 n behind h = field-most 9 n behind (omega arith)
+
+pub field-64 : (n behind : ℕ) → n < 2 ^ 64 → length (field n behind) ≤ 21
+field-64 n behind h = field-most 19 n behind (omega arith)

@@ -5,10 +5,11 @@ use native.Mathlib.Omega.{arith}
 use borrow.Author.Needs.{needs}
 use lib.ListN.{length, length-set}
 use lib.Seq.{sets}
-use Rattle.unit_line.specs.Line.{decimal}
-use Rattle.unit_line.proofs.Decimal.{decimal-one, length-decimal-more, decimal-least, decimal-turn}
-use Rattle.unit_line.proofs.put_decimal.Statement.{statement}
-use Rattle.unit_line.proofs.put_decimal.Tie as tie
+use Rattle.decimals.specs.Decimal.{decimal}
+use Rattle.decimals.proofs.Decimal.{decimal-one, length-decimal-more, decimal-least}
+use Rattle.decimals.proofs.Puts.{decimal-turn}
+use Rattle.decimals.proofs.put_decimal.Statement.{statement}
+use Rattle.decimals.proofs.put_decimal.Tie as tie
 
 abbrev Inv-loop : tie.InvT-loop
 Inv-loop out₀ at n end left₀ rest₀ out left rest =
