@@ -2,10 +2,17 @@
 use Prim.Native.Nat.{ℕ}
 use mathlib.Core.List.{List}
 use mathlib.Core.Path.{_≡_, ap, fun-ext, _∙_}
-use Rattle.guideline.specs.Bytes.{lents}
+use Rattle.guideline.specs.Bytes.{Lents, lents, spelled}
+use Rattle.guideline.specs.Check.{check}
+use Rattle.guideline.specs.declared.Answer.{Answer}
+use Rattle.guideline.specs.declared.Entry.{Entry}
 use Rattle.guideline.specs.declared.TableName.{TableName}
 use Rattle.guideline.specs.declared.TableName.the-variants.{T640, T641, T642, T643, T649, T730}
 use Rattle.stream.specs.Cases.{tables-of}
+
+-- an answer over tables is that over any tables that they are
+pub answer-over : {a : Answer} (e : Entry) (f g : Lents) → a ≡ check (spelled f) e → f ≡ g → a ≡ check (spelled g) e
+answer-over e f g p h = rw h at p
 
 module _ (b : List ℕ) where
   -- what was cut out under the name m, and the name that it was to have

@@ -106,15 +106,21 @@ pub fn lines(case: &[u8], test: Test, from: usize, out: &mut [u8], at: usize) ->
     requires { ⌜ Ready (now case) test from (length (now out)) at ⌝ }
     ensures { λ r. ⌜ Answered (now (case .entry)) from (now (out .entry)) at (now (out .exit)) r ⌝ }
 {
+    let t640 = table(case, TableName::T640);
+    let t641 = table(case, TableName::T641);
+    let t642 = table(case, TableName::T642);
+    let t643 = table(case, TableName::T643);
+    let t649 = table(case, TableName::T649);
+    let t730 = table(case, TableName::T730);
     put_lines(
         case,
         test,
-        table(case, TableName::T640),
-        table(case, TableName::T641),
-        table(case, TableName::T642),
-        table(case, TableName::T643),
-        table(case, TableName::T649),
-        table(case, TableName::T730),
+        t640,
+        t641,
+        t642,
+        t643,
+        t649,
+        t730,
         from,
         out,
         at,

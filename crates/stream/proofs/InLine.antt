@@ -22,3 +22,7 @@ put-number {old} {mid} {at} {end} {s} l i h e p =
     let rest = line (drop (i + 1) l) in
     let q : Put old at first mid end = rw e at p in
     (rw (line-step l i h, length-append first rest, q .place) (omega arith), rw (line-step l i h, sets-append old at first rest, ← q .bytes, ← q .place))
+
+-- a line of numbers is the line of any list that they are
+pub line-of-these : {old new : List ℕ} {at end : ℕ} (l m : List ℕ) → Put old at (line l) new end → l ≡ m → Put old at (line m) new end
+line-of-these l m p e = rw e at p

@@ -1,5 +1,6 @@
 -- The entries stand behind the tables, one behind the other. Assumes nothing.
 use borrow.Author.Needs.{needs}
+use mathlib.Core.Path.{refl}
 use denote.Ref.{now}
 use native.Mathlib.Omega.{arith}
 use Rattle.stream.specs.Cases.{entry-of}
@@ -21,7 +22,7 @@ entry-at-requires c κs = omega (arith, entry-inside (now (c .before .before .ar
 
 returns : tie.Need-returns
 unfolding entry-of
-returns c = rw (c .entry-at .ensures, c .before .start .ensures .0)
+returns c = rw (c .entry-at .ensures, c .before .start .ensures .0) refl
 
 pub entry-spec : {M : Type 1} → statement M
 entry-spec = tie.close (tie.spec start-requires mul-entry-at add-entry-at entry-at-requires returns)

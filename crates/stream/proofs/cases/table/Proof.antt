@@ -1,6 +1,6 @@
 -- From the table's first byte as many as the front says. Assumes nothing.
 use Prim.Native.Nat.{_+_, _-_}
-use mathlib.Core.Path.{_≡_}
+use mathlib.Core.Path.{_≡_, refl}
 use borrow.Author.Needs.{needs}
 use denote.Ref.{now}
 use native.Mathlib.Omega.{arith}
@@ -26,7 +26,7 @@ returns c =
     let start = c .before .before .start .result in
     let length = c .before .number .result in
     let e : start + length - start ≡ length = omega arith in
-    rw (e, c .before .number .ensures, c .before .before .start .ensures .0, c .before .before .before .place .ensures .0)
+    rw (e, c .before .number .ensures, c .before .before .start .ensures .0, c .before .before .before .place .ensures .0) refl
 
 pub table-spec : {M : Type 1} → statement M
 table-spec = tie.close (tie.spec (λ c κs. search needs) start-requires number-requires (λ c. search needs) (λ c. search needs) (λ c. search needs) (λ c. search needs) part-result-end returns)
