@@ -4,7 +4,7 @@ ghost use Prim.Native.Nat.{_≤_};
 ghost use lib.ListN.{length};
 ghost use Rattle.guideline.specs.Bytes.{lents, spelled};
 ghost use Rattle.guideline.specs.Check.{check};
-ghost use Rattle.stream.specs.Cases.{case-length, entry-count, tables-of};
+ghost use Rattle.stream.specs.Cases.{case-length, tables-of};
 ghost use Rattle.case_lines.specs.Lines.{Fitting, test-of, Ready, Answered};
 use guideline::Answer;
 use guideline::Entry;

@@ -8,9 +8,8 @@ use borrow.Author.Tests.{leb-true, leb-false}
 use lib.Dec.{leb}
 use lib.ListN.{length}
 use Rattle.stream.specs.Entries.{number, entry-length}
-use Rattle.stream.specs.Cases.{table-count, front-length, longest-case, sum-of, start, entry-count, case-length, at-end, read-on, what-next}
-use Rattle.stream.specs.declared.cases.Next.{Next}
-use Rattle.stream.specs.declared.cases.Next.the-variants.{Read, Answer, Broken, Finished}
+use Rattle.stream.specs.Cases.{table-count, front-length, longest-case, sum-of, start, entry-count, case-length, read-on, what-next}
+use Rattle.stream.specs.declared.cases.Next.the-variants.{Read, Answer, Broken}
 
 pub start-next : (b : List ℕ) (k : ℕ) → start b (suc k) ≡ start b k + number b 0 k
 unfolding start

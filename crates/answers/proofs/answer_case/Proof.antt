@@ -13,8 +13,6 @@ use Rattle.stream.specs.Cases.{entry-count}
 use Rattle.case_lines.proofs.Onward.{test-fits, moves}
 use Rattle.answers.proofs.answer_case.Statement.{statement}
 use Rattle.answers.proofs.answer_case.Tie as tie
-use Rattle.answers.proofs.answer_case.Reads as reads
-use Rattle.answers.proofs.answer_case.Lts as lts
 
 is-true : (b : Bool) → not b ≡ false → b ≡ true
 is-true true h = refl

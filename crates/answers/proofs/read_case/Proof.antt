@@ -13,8 +13,6 @@ use Rattle.stream.specs.Cases.{longest-case}
 use Rattle.stream.proofs.Inside.{answer-whole, read-inside}
 use Rattle.answers.proofs.read_case.Statement.{statement}
 use Rattle.answers.proofs.read_case.Tie as tie
-use Rattle.answers.proofs.read_case.Reads as reads
-use Rattle.answers.proofs.read_case.Lts as lts
 
 -- a turn that finds the end is the last that reads
 abbrev turn-left : Bool → ℕ

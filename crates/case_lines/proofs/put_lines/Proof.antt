@@ -1,6 +1,5 @@
 -- The lines of the entries that are passed stand behind the place. Assumes nothing.
-use Prim.Native.Nat.{_+_, _-_, _≤_, _<_}
-use borrow.Author.Needs.{needs}
+use Prim.Native.Nat.{_-_, _≤_}
 use borrow.Author.Tests.{lt-ltb, le-ltb}
 use denote.Ref.{now}
 use mathlib.Core.Path.{_≡_, refl, sym, _∙_}

@@ -1,9 +1,8 @@
 -- One entry, or several. Assumes nothing.
-use Prim.Native.Nat.{_≤_}
 use borrow.Author.Needs.{needs}
 use borrow.Author.Tests.{le-leb, lt-leb}
 use denote.Ref.{now}
-use mathlib.Core.Path.{_≡_, refl}
+use mathlib.Core.Path.{refl}
 use native.Mathlib.Omega.{arith}
 use Rattle.guideline.specs.declared.TableName.the-variants.{T640, T641, T642, T643, T649, T730}
 use Rattle.stream.specs.Cases.{entry-count}

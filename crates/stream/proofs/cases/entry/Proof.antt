@@ -1,5 +1,4 @@
 -- The entries stand behind the tables, one behind the other. Assumes nothing.
-use borrow.Author.Needs.{needs}
 use mathlib.Core.Path.{refl}
 use denote.Ref.{now}
 use native.Mathlib.Omega.{arith}

@@ -1,5 +1,4 @@
 -- The tests of the definition, in its order. Assumes nothing.
-use Prim.Native.Nat.{_≤_, _<_}
 use borrow.Author.Needs.{needs}
 use borrow.Author.Tests.{le-leb, lt-leb}
 use denote.Ref.{now}
