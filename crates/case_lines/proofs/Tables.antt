@@ -1,0 +1,31 @@
+-- The tables that a case is cut into are those of the definition, by their names. Assumes nothing.
+use Prim.Native.Nat.{ℕ}
+use mathlib.Core.List.{List}
+use mathlib.Core.Path.{_≡_, ap, fun-ext, _∙_}
+use Rattle.guideline.specs.Bytes.{Lents, lents, spelled}
+use Rattle.guideline.specs.Check.{check}
+use Rattle.guideline.specs.declared.Answer.{Answer}
+use Rattle.guideline.specs.declared.Entry.{Entry}
+use Rattle.guideline.specs.declared.TableName.{TableName}
+use Rattle.guideline.specs.declared.TableName.the-variants.{T640, T641, T642, T643, T649, T730}
+use Rattle.stream.specs.Cases.{tables-of}
+
+-- an answer over tables is that over any tables that they are
+pub answer-over : {a : Answer} (e : Entry) (f g : Lents) → a ≡ check (spelled f) e → f ≡ g → a ≡ check (spelled g) e
+answer-over e f g p h = rw h at p
+
+module _ (b : List ℕ) where
+  -- what was cut out under the name m, and the name that it was to have
+  pub named : {l : List ℕ} (m n : TableName) → l ≡ tables-of b m → m ≡ n → l ≡ tables-of b n
+  named m n e h = e ∙ ap (tables-of b) h
+
+  pub six : {t640 t641 t642 t643 t649 t730 : List ℕ} → t640 ≡ tables-of b T640 → t641 ≡ tables-of b T641 → t642 ≡ tables-of b T642 → t643 ≡ tables-of b T643 → t649 ≡ tables-of b T649 → t730 ≡ tables-of b T730 → lents t640 t641 t642 t643 t649 t730 ≡ tables-of b
+  six {t640} {t641} {t642} {t643} {t649} {t730} p q r s t u = fun-ext each
+    where
+      each : (n : TableName) → lents t640 t641 t642 t643 t649 t730 n ≡ tables-of b n
+      each T640 = p
+      each T641 = q
+      each T642 = r
+      each T643 = s
+      each T649 = t
+      each T730 = u

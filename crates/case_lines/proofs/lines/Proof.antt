@@ -1,0 +1,16 @@
+-- The tables are cut out of the case, each under its name. Assumes nothing.
+use borrow.Author.Needs.{needs}
+use denote.Ref.{now}
+use mathlib.Core.Path.{refl}
+use Rattle.guideline.specs.declared.TableName.the-variants.{T640, T641, T642, T643, T649, T730}
+use Rattle.case_lines.proofs.Tables.{named, six}
+use Rattle.case_lines.proofs.lines.Statement.{statement}
+use Rattle.case_lines.proofs.lines.Tie as tie
+
+put-lines-requires : tie.Need-put-lines-requires
+put-lines-requires c κs =
+    let case = now (c .before .before .before .before .before .before .before .before .before .args .case) in
+    (c .before .before .before .before .before .before .before .before .before .pre, six case (named case _ T640 (c .before .before .before .before .before .before .table .ensures) refl) (named case _ T641 (c .before .before .before .before .before .table2 .ensures) refl) (named case _ T642 (c .before .before .before .before .table3 .ensures) refl) (named case _ T643 (c .before .before .before .table4 .ensures) refl) (named case _ T649 (c .before .before .table5 .ensures) refl) (named case _ T730 (c .before .table6 .ensures) refl))
+
+pub lines-spec : {M : Type 1} → statement M
+lines-spec = tie.close (tie.spec (λ c κs. search needs) (λ c κs. search needs) (λ c κs. search needs) (λ c κs. search needs) (λ c κs. search needs) (λ c κs. search needs) put-lines-requires (λ c. search needs) (λ c. search needs))
