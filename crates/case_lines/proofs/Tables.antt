@@ -4,10 +4,10 @@ use mathlib.Core.List.{List}
 use mathlib.Core.Path.{_≡_, ap, fun-ext, _∙_}
 use Rattle.guideline.specs.Bytes.{Lents, lents, spelled}
 use Rattle.guideline.specs.Check.{check}
-use Rattle.guideline.specs.declared.Answer.{Answer}
-use Rattle.guideline.specs.declared.Entry.{Entry}
-use Rattle.guideline.specs.declared.TableName.{TableName}
-use Rattle.guideline.specs.declared.TableName.the-variants.{T640, T641, T642, T643, T649, T730}
+use Rattle.guideline.specs.declared.answer.Answer.{Answer}
+use Rattle.guideline.specs.declared.entry.Entry.{Entry}
+use Rattle.guideline.specs.declared.rows.TableName.{TableName}
+use Rattle.guideline.specs.declared.rows.TableName.the-variants.{T640, T641, T642, T643, T649, T730}
 use Rattle.stream.specs.Cases.{tables-of}
 
 -- an answer over tables is that over any tables that they are

@@ -6,9 +6,9 @@ ghost use Rattle.guideline.specs.Bytes.{lents, spelled};
 ghost use Rattle.guideline.specs.Check.{check};
 ghost use Rattle.stream.specs.Cases.{case-length, tables-of};
 ghost use Rattle.case_lines.specs.Lines.{Fitting, test-of, Ready, Answered};
-use guideline::Answer;
-use guideline::Entry;
-use guideline::TableName;
+use guideline::answer::Answer;
+use guideline::entry::Entry;
+use guideline::rows::TableName;
 use ranges::sound::Soundness;
 use stream::cases::table;
 

@@ -2,7 +2,7 @@
 use borrow.Author.Needs.{needs}
 use denote.Ref.{now}
 use mathlib.Core.Path.{refl}
-use Rattle.guideline.specs.declared.TableName.the-variants.{T640, T641, T642, T643, T649, T730}
+use Rattle.guideline.specs.declared.rows.TableName.the-variants.{T640, T641, T642, T643, T649, T730}
 use Rattle.case_lines.proofs.Tables.{named, six}
 use Rattle.case_lines.proofs.lines.Statement.{statement}
 use Rattle.case_lines.proofs.lines.Tie as tie

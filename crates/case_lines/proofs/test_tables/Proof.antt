@@ -4,7 +4,7 @@ use borrow.Author.Tests.{le-leb, lt-leb}
 use denote.Ref.{now}
 use mathlib.Core.Path.{refl}
 use native.Mathlib.Omega.{arith}
-use Rattle.guideline.specs.declared.TableName.the-variants.{T640, T641, T642, T643, T649, T730}
+use Rattle.guideline.specs.declared.rows.TableName.the-variants.{T640, T641, T642, T643, T649, T730}
 use Rattle.stream.specs.Cases.{entry-count}
 use Rattle.stream.proofs.Inside.{front-inside}
 use Rattle.case_lines.specs.Lines.{test-of}
