@@ -1,2 +1,3 @@
 pub mod Tallied
 pub mod Lents
+pub mod Moved

@@ -2,7 +2,6 @@
 -- was selected with. Assumes nothing.
 use Prim.Native.Nat.{ℕ}
 use mathlib.Core.Path.{_≡_, refl}
-use mathlib.Core.Bool.{true}
 use native.Mathlib.Omega.{arith}
 use Rattle.guideline.specs.declared.answer.Reached.{Reached}
 use Rattle.guideline.specs.declared.context.Ratio.{Ratio}

@@ -4,9 +4,7 @@ use borrow.Author.Needs.{needs}
 use mathlib.Core.Path.{_≡_, sym, _∙_, ap, ap₂, subst}
 use mathlib.Core.Bool.{true}
 use denote.Ref.{now}
-use Rattle.guideline.specs.declared.answer.Compared.{Compared}
 use Rattle.guideline.specs.declared.answer.Reached.{Reached}
-use Rattle.guideline.specs.declared.context.Ratio.{Ratio}
 use Rattle.guideline.specs.declared.context.Selected.{Selected}
 use Rattle.guideline.specs.declared.rows.Row649.{Row649}
 use Rattle.guideline.specs.declared.rows.TableName.the-variants.{T640, T641, T642, T643, T649}
@@ -14,7 +12,7 @@ use Rattle.guideline.specs.Ask.{Outcome, Chosen, run}
 use Rattle.guideline.specs.Bytes.{rows-of}
 use Rattle.guideline.specs.Entries.{datum}
 use Rattle.guideline.specs.Rows.{sound-row}
-use Rattle.guideline.specs.Steps.{Verdict, comparison, to-rule}
+use Rattle.guideline.specs.Steps.{comparison, to-rule}
 use Rattle.guideline.specs.Check.{answer, refused, compared}
 use Rattle.guideline.proofs.Gives.{gives-table}
 use Rattle.guideline.proofs.Run.{after, run-bind}

@@ -1,13 +1,10 @@
 -- A refusal ends the chain; what was chosen goes on to the next link. Assumes nothing.
 use borrow.Author.Needs.{needs}
 use mathlib.Core.Path.{sym, _∙_, ap, ap₂}
-use denote.Ref.{now}
-use Rattle.guideline.specs.declared.rows.TableName.the-variants.{T641}
 use Rattle.guideline.specs.Entries.{datum}
 use Rattle.guideline.specs.Ask.{run}
 use Rattle.guideline.specs.Steps.{person, nothing}
 use Rattle.guideline.proofs.Run.{step-refused, step-chosen}
-use Rattle.cells.specs.Lents.{rows}
 use Rattle.selection.specs.Chosen.{refusal-age}
 use Rattle.selection.proofs.Told.{told-age}
 use Rattle.selection.specs.Selecting.{selected}

@@ -1,19 +1,13 @@
 -- The row with that HPK, or the level below. Assumes nothing.
 use borrow.Author.Needs.{needs}
 use denote.Ref.{now}
-use mathlib.Core.Path.{_≡_, refl, sym, _∙_, ap}
-use Rattle.guideline.specs.declared.rows.Row641.{Row641}
 use Rattle.guideline.specs.declared.rows.TableName.the-variants.{T641}
-use Rattle.guideline.specs.declared.refusals.Ending.the-variants.{HpkSeveral}
-use Rattle.guideline.specs.Ask.{Done, run}
-use Rattle.guideline.specs.Entries.{datum}
-use Rattle.guideline.specs.Table.{Hits, among}
+use Rattle.guideline.specs.Table.{among}
 use Rattle.guideline.specs.Rows.{keyed}
 use Rattle.guideline.specs.Steps.{refuse, choose, by-prk}
 use Rattle.cells.specs.Lents.{rows}
 use Rattle.tables.specs.Tests.{test641}
 use Rattle.tables.specs.declared.t641.Test641.the-variants.{Hpk}
-use Rattle.selection.specs.Chosen.{chosen641}
 use Rattle.selection.proofs.Told.{found-641}
 use Rattle.selection.proofs.level.of_hpk.Statement.{statement}
 use Rattle.selection.proofs.level.of_hpk.Tie as tie
