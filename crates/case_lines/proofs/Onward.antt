@@ -13,7 +13,7 @@ use Rattle.decimals.proofs.Puts.{put-on}
 use Rattle.guideline.specs.Bytes.{Lents, spelled}
 use Rattle.guideline.specs.Check.{numbers-of, check}
 use Rattle.guideline.specs.declared.answer.Answer.{Answer}
-use Rattle.guideline.specs.declared.entry.Entry.{Entry}
+use Rattle.guideline.specs.declared.entries.Entry.{Entry}
 use Rattle.stream.specs.Cases.{tables-of, entry-of, entry-count}
 use Rattle.stream.specs.Lines.{line, longest-line}
 use Rattle.ranges.specs.Soundly.{soundness}

@@ -5,7 +5,7 @@ use mathlib.Core.Path.{_≡_, ap, fun-ext, _∙_}
 use Rattle.guideline.specs.Bytes.{Lents, lents, spelled}
 use Rattle.guideline.specs.Check.{check}
 use Rattle.guideline.specs.declared.answer.Answer.{Answer}
-use Rattle.guideline.specs.declared.entry.Entry.{Entry}
+use Rattle.guideline.specs.declared.entries.Entry.{Entry}
 use Rattle.guideline.specs.declared.rows.TableName.{TableName}
 use Rattle.guideline.specs.declared.rows.TableName.the-variants.{T640, T641, T642, T643, T649, T730}
 use Rattle.stream.specs.Cases.{tables-of}

@@ -3,9 +3,9 @@ use Prim.Native.Nat.{_≤_, _<_}
 use mathlib.Core.Path.{_≡_, refl, sym, _∙_, ap}
 use borrow.Author.Tests.{le-leb, lt-leb}
 use Rattle.guideline.specs.declared.context.Context.{Context}
-use Rattle.guideline.specs.declared.entry.Datum.{Datum}
-use Rattle.guideline.specs.declared.entry.Prescription.{Prescription}
-use Rattle.guideline.specs.declared.entry.Value.{Value}
+use Rattle.guideline.specs.declared.entries.Datum.{Datum}
+use Rattle.guideline.specs.declared.entries.Prescription.{Prescription}
+use Rattle.guideline.specs.declared.entries.Value.{Value}
 use Rattle.guideline.specs.declared.refusals.Ending.the-variants.{TooManyRows}
 use Rattle.guideline.specs.declared.refusals.Refusal.{Refusal}
 use Rattle.guideline.specs.declared.refusals.Refusal.the-variants.{Ends}

@@ -4,10 +4,10 @@ use mathlib.Core.Path.{_≡_, refl, sym, _∙_, ap, fun-ext}
 use mathlib.Core.Bool.{Bool, true, false, and-true}
 use mathlib.Core.List.{List}
 use Rattle.guideline.specs.declared.bounds.Bounds.{Bounds}
-use Rattle.guideline.specs.declared.entry.Datum.{Datum}
-use Rattle.guideline.specs.declared.entry.Prescription.{Prescription}
-use Rattle.guideline.specs.declared.entry.Value.{Value}
-use Rattle.guideline.specs.declared.entry.Value.the-variants.{Blank, Given}
+use Rattle.guideline.specs.declared.entries.Datum.{Datum}
+use Rattle.guideline.specs.declared.entries.Prescription.{Prescription}
+use Rattle.guideline.specs.declared.entries.Value.{Value}
+use Rattle.guideline.specs.declared.entries.Value.the-variants.{Blank, Given}
 use Rattle.guideline.specs.declared.refusals.Ending.{Ending}
 use Rattle.guideline.specs.declared.refusals.Ending.the-variants.{NoFrequency, RowsSeveral}
 use Rattle.guideline.specs.declared.refusals.Question.{Question}

@@ -1,6 +1,6 @@
 -- Steps 7 to 11 by links: each is one step, and then the next link. `linked` of proofs/Links.antt has that they are the guideline's chain.
 use Rattle.guideline.specs.declared.context.Context.{Context}
-use Rattle.guideline.specs.declared.entry.Prescription.{Prescription}
+use Rattle.guideline.specs.declared.entries.Prescription.{Prescription}
 use Rattle.guideline.specs.declared.rows.Row643.{Row643}
 use Rattle.guideline.specs.Ask.{Step, _>>=_}
 use Rattle.guideline.specs.Table.{Table}

@@ -7,9 +7,9 @@ use native.Mathlib.Omega.{arith}
 use Rattle.guideline.specs.declared.answer.Reached.{Reached}
 use Rattle.guideline.specs.declared.context.Ratio.{Ratio}
 use Rattle.guideline.specs.declared.context.Selected.{Selected}
-use Rattle.guideline.specs.declared.entry.Datum.{Datum}
-use Rattle.guideline.specs.declared.entry.Prescription.{Prescription}
-use Rattle.guideline.specs.declared.entry.Value.{Value}
+use Rattle.guideline.specs.declared.entries.Datum.{Datum}
+use Rattle.guideline.specs.declared.entries.Prescription.{Prescription}
+use Rattle.guideline.specs.declared.entries.Value.{Value}
 use Rattle.guideline.specs.declared.refusals.Ending.the-variants.{LimitsAbsent, LimitsSeveral}
 use Rattle.guideline.specs.declared.rows.Row649.{Row649}
 use Rattle.guideline.specs.declared.rows.TableName.the-variants.{T640, T641, T642, T643, T649}

@@ -2,7 +2,7 @@
 -- the bytes spell.
 use mathlib.Core.Path.{_≡_}
 use Rattle.guideline.specs.declared.answer.Answer.{Answer}
-use Rattle.guideline.specs.declared.entry.Entry.{Entry}
+use Rattle.guideline.specs.declared.entries.Entry.{Entry}
 use Rattle.guideline.specs.Bytes.{Lents, spelled}
 use Rattle.guideline.specs.Check.{check}
 

@@ -3,7 +3,7 @@ use mathlib.Core.Path.{_≡_}
 use mathlib.Core.Bool.{true}
 use Rattle.guideline.specs.declared.answer.Reached.{Reached}
 use Rattle.guideline.specs.declared.context.Ratio.{Ratio}
-use Rattle.guideline.specs.declared.entry.Prescription.{Prescription}
+use Rattle.guideline.specs.declared.entries.Prescription.{Prescription}
 use Rattle.guideline.specs.declared.rows.TableName.the-variants.{T640, T641, T642, T643, T649, T730}
 use Rattle.guideline.specs.Ask.{Plan, Done, _>>=_, at}
 use Rattle.guideline.specs.Entries.{prescription-in-range}

@@ -2,13 +2,13 @@
 use Prim.Native.Nat.{ℕ}
 use mathlib.Core.Path.{_≡_, refl}
 use mathlib.Core.Bool.{Bool, true, false, _&&_}
-use Rattle.guideline.specs.declared.entry.Datum.{Datum}
-use Rattle.guideline.specs.declared.entry.Datum.the-variants.{Age, Sex, Hpk, Prk, Weight, Surface}
-use Rattle.guideline.specs.declared.entry.Value.{Value}
-use Rattle.guideline.specs.declared.entry.Value.the-variants.{Blank, Given}
-use Rattle.guideline.specs.declared.entry.Data.{Data}
-use Rattle.guideline.specs.declared.entry.Entry.{Entry}
-use Rattle.guideline.specs.declared.ranges.Range.{Range}
+use Rattle.guideline.specs.declared.entries.Datum.{Datum}
+use Rattle.guideline.specs.declared.entries.Datum.the-variants.{Age, Sex, Hpk, Prk, Weight, Surface}
+use Rattle.guideline.specs.declared.entries.Value.{Value}
+use Rattle.guideline.specs.declared.entries.Value.the-variants.{Blank, Given}
+use Rattle.guideline.specs.declared.entries.Data.{Data}
+use Rattle.guideline.specs.declared.entries.Entry.{Entry}
+use Rattle.guideline.specs.declared.range.Range.{Range}
 use Rattle.guideline.specs.Values.{within, codes-from-1, ages, weights, surfaces, sexes}
 use Rattle.guideline.specs.Entries.{datum, permitted, datum-in-range, prescription-in-range, each, in-range}
 use Rattle.entry.specs.Given.{within-if-given}

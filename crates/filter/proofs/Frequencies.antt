@@ -1,7 +1,7 @@
 -- The filters of a frequency are what step 9 asks of a row.
 use mathlib.Core.Path.{_≡_, refl}
 use mathlib.Core.Bool.{_||_}
-use Rattle.guideline.specs.declared.entry.Prescription.{Prescription}
+use Rattle.guideline.specs.declared.entries.Prescription.{Prescription}
 use Rattle.guideline.specs.Steps.{same-count, same-unit, twin-unit, exact, twin}
 use Rattle.filter.specs.declared.Filter.the-variants.{Exact, Twin, UnitOrTwin, Count}
 use Rattle.filter.specs.Filters.{frequency-of, filter643}

@@ -1,7 +1,7 @@
 // The setting: what the rows of table 642 are told apart by, and what step 6 falls back to.
 ghost use mathlib.Core.Path.{_≡_};
 ghost use Rattle.guideline.specs.Values.{all-care, whole-reason, Q-general, no-route, setting-entered};
-use crate::entry::Prescription;
+use crate::entries::Prescription;
 
 // What the rows of table 642 are told apart by.
 pub struct Setting {

@@ -4,8 +4,8 @@ use mathlib.Core.Path.{_≡_, refl, _∙_, ap}
 use mathlib.Core.Bool.{Bool, true, false}
 use mathlib.Core.List.{List, [], _∷_}
 use native.Mathlib.Omega.{arith}
-use Rattle.guideline.specs.declared.entry.Datum.{Datum}
-use Rattle.guideline.specs.declared.entry.Value.{Value}
+use Rattle.guideline.specs.declared.entries.Datum.{Datum}
+use Rattle.guideline.specs.declared.entries.Value.{Value}
 use Rattle.guideline.specs.declared.rows.TableName.{TableName}
 use Rattle.guideline.specs.declared.refusals.Ending.{Ending}
 use Rattle.guideline.specs.declared.refusals.Refusal.{Refusal}

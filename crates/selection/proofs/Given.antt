@@ -2,10 +2,10 @@
 use Prim.Native.Nat.{ℕ}
 use mathlib.Core.Path.{_≡_}
 use mathlib.Core.Bool.{true}
-use Rattle.guideline.specs.declared.entry.Datum.{Datum}
-use Rattle.guideline.specs.declared.entry.Datum.the-variants.{Hpk, Prk}
-use Rattle.guideline.specs.declared.entry.Value.{Value}
-use Rattle.guideline.specs.declared.entry.Value.the-variants.{Given}
+use Rattle.guideline.specs.declared.entries.Datum.{Datum}
+use Rattle.guideline.specs.declared.entries.Datum.the-variants.{Hpk, Prk}
+use Rattle.guideline.specs.declared.entries.Value.{Value}
+use Rattle.guideline.specs.declared.entries.Value.the-variants.{Given}
 use Rattle.guideline.specs.declared.rows.Row641.{Row641}
 use Rattle.guideline.specs.Ask.{run, _>>=_}
 use Rattle.guideline.specs.Table.{Table, some}

@@ -3,8 +3,8 @@ use Prim.Native.Nat.{ℕ}
 use mathlib.Core.Path.{_≡_, refl, sym, _∙_, ap}
 use mathlib.Core.Bool.{Bool, true, false, cond}
 use lib.Dec.{eqb}
-use Rattle.guideline.specs.declared.entry.Datum.{Datum}
-use Rattle.guideline.specs.declared.entry.Value.{Value}
+use Rattle.guideline.specs.declared.entries.Datum.{Datum}
+use Rattle.guideline.specs.declared.entries.Value.{Value}
 use Rattle.guideline.specs.declared.refusals.Ending.the-variants.{NoSetting, SettingSeveral}
 use Rattle.guideline.specs.declared.rows.Row642.{Row642}
 use Rattle.guideline.specs.declared.rows.TableName.the-variants.{T642}

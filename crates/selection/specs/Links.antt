@@ -4,7 +4,7 @@ use Rattle.guideline.specs.declared.answer.Reached.{Reached}
 use Rattle.guideline.specs.declared.context.Context.{Context}
 use Rattle.guideline.specs.declared.context.Ratio.{Ratio}
 use Rattle.guideline.specs.declared.context.Selected.{Selected}
-use Rattle.guideline.specs.declared.entry.Prescription.{Prescription}
+use Rattle.guideline.specs.declared.entries.Prescription.{Prescription}
 use Rattle.guideline.specs.declared.rows.TableName.the-variants.{T640, T641, T642, T643, T649}
 use Rattle.guideline.specs.Ask.{Plan, Done, _>>=_, at}
 use Rattle.guideline.specs.Table.{Table}

@@ -2,7 +2,7 @@
 ghost use mathlib.Core.Path.{_≡_};
 ghost use Rattle.guideline.specs.Values.{within, codes, codes-from-1, units, counts, doses, limits, ages, weights, surfaces, sexes, sexes-of-640, risks, levels, care-groups, icpctos, positions, amount-in-range, amount-zero, amount-large};
 use crate::both;
-use crate::entry::Switch;
+use crate::entries::Switch;
 use crate::rows::Row640;
 use crate::rows::Row641;
 use crate::setting::Setting;
