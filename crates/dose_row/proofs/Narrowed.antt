@@ -1,7 +1,7 @@
 -- The steps that filter, told by the set that they leave. Assumes nothing.
 use Prim.Native.Nat.{ℕ}
 use mathlib.Core.Path.{_≡_, refl, sym, _∙_, ap, fun-ext}
-use mathlib.Core.Bool.{Bool, true, false, and-true}
+use mathlib.Core.Bool.{Bool, true, false, and-true, false≢true}
 use mathlib.Core.List.{List}
 use Rattle.guideline.specs.declared.bounds.Bounds.{Bounds}
 use Rattle.guideline.specs.declared.entries.Datum.{Datum}
@@ -24,29 +24,33 @@ use Rattle.filter.specs.declared.Filter.the-variants.{Exact, Twin, UnitOrTwin, 
 use Rattle.filter.specs.Filters.{filter643, frequency-of}
 use Rattle.filter.proofs.Frequencies.{exact-filter, twin-filter, unit-filter, count-filter}
 use Rattle.dose_row.specs.declared.remembered.Remembered.{Remembered}
-use Rattle.dose_row.specs.Remembered.{remembered, places, Thinned, Stepped}
-use Rattle.dose_row.specs.declared.steps.Step.the-variants.{Kept}
+use Rattle.dose_row.specs.Remembered.{remembered, places, Thinned}
 use Rattle.dose_row.proofs.Sets.{none-left, one-left, number-left}
 
--- a filter that leaves no row is refused; else it goes on with what it leaves
-module _ {l : List ℕ} {p : Row643 → Bool} {t : Table Row643} {s : Remembered} (k : Thinned l p t s) (d : Datum → Value) (none : Ending) where
+module _ {l : List ℕ} {p : Row643 → Bool} {t : Table Row643} {s : Remembered} (k : Thinned l p t s) where
   some-left : some (t p) ≡ some (remembered l s every)
   some-left =
       ap (λ (q : Row643 → Bool). some (t q)) (fun-ext (λ r. sym (and-true (p r))))
       ∙ ap (λ (u : Table Row643). some (u every)) (sym (k .same))
 
+  -- some row is left where one has the property
+  pub left-some : some (t p) ≡ true → s .len ≡ 0 → ⊥
+  left-some h e = false≢true (sym (some-left ∙ ap some (none-left l s e)) ∙ h)
+
+-- a filter that leaves no row is refused; else it goes on with what it leaves
+module _ {l : List ℕ} {p : Row643 → Bool} {t : Table Row643} {s : Remembered} (k : Thinned l p t s) (d : Datum → Value) (none : Ending) where
   pub narrow-none : s .len ≡ 0 → run d (narrow p none t) ≡ Refused (Ends none) tt
   unfolding narrow when refuse
-  narrow-none e = rw (some-left ∙ ap some (none-left l s e))
+  narrow-none e = rw (some-left k ∙ ap some (none-left l s e))
 
   some-of-number : (h : Hits Row643) → (number h ≡ 0 → ⊥) → some h ≡ true
   some-of-number None z = absurd (z refl)
   some-of-number (One r) z = refl
   some-of-number (Many n) z = refl
 
-  pub narrow-some : (s .len ≡ 0 → ⊥) → Stepped l (run d (narrow p none t)) s Kept
+  pub narrow-some : (s .len ≡ 0 → ⊥) → run d (narrow p none t) ≡ Chosen (remembered l s)
   unfolding narrow when
-  narrow-some z = (rw (some-left ∙ some-of-number (remembered l s every) (λ e. z (sym (number-left l s) ∙ e))) (ap Chosen (sym (k .same))), k .valid)
+  narrow-some z = rw (some-left k ∙ some-of-number (remembered l s every) (λ e. z (sym (number-left l s) ∙ e))) (ap Chosen (sym (k .same)))
 
 -- step 9, by the tests of the entered frequency
 module _ (p : Prescription) (t : Table Row643) where
