@@ -1,7 +1,7 @@
 -- The steps that filter, told by the set that they leave. Assumes nothing.
 use Prim.Native.Nat.{ℕ}
 use mathlib.Core.Path.{_≡_, refl, sym, _∙_, ap, fun-ext}
-use mathlib.Core.Bool.{Bool, true, false, and-true, false≢true}
+use mathlib.Core.Bool.{Bool, true, false, cond, and-true}
 use mathlib.Core.List.{List}
 use Rattle.guideline.specs.declared.bounds.Bounds.{Bounds}
 use Rattle.guideline.specs.declared.entries.Datum.{Datum}
@@ -20,28 +20,25 @@ use Rattle.guideline.specs.Ask.{asks-for, Chosen, Refused, Done, run, _>>=_}
 use Rattle.guideline.specs.Table.{Table, Hits, None, One, Many, some, number, among, every}
 use Rattle.guideline.specs.Steps.{signal, when, refuse, ask, choose, one, narrow, no-frequency, by-frequency, by-measure, one-row}
 use Rattle.cells.specs.Lents.{row-at}
+use Rattle.filter.specs.declared.Frequency.{Frequency}
+use Rattle.filter.specs.declared.Filter.{Filter}
 use Rattle.filter.specs.declared.Filter.the-variants.{Exact, Twin, UnitOrTwin, Count}
 use Rattle.filter.specs.Filters.{filter643, frequency-of}
 use Rattle.filter.proofs.Frequencies.{exact-filter, twin-filter, unit-filter, count-filter}
 use Rattle.dose_row.specs.declared.remembered.Remembered.{Remembered}
-use Rattle.dose_row.specs.Remembered.{remembered, places, Thinned}
+use Rattle.dose_row.specs.Remembered.{remembered, places, Thinned, frequency-kept}
 use Rattle.dose_row.proofs.Sets.{none-left, one-left, number-left}
 
-module _ {l : List ℕ} {p : Row643 → Bool} {t : Table Row643} {s : Remembered} (k : Thinned l p t s) where
+-- a filter that leaves no row is refused; else it goes on with what it leaves
+module _ {l : List ℕ} {p : Row643 → Bool} {t : Table Row643} {s : Remembered} (k : Thinned l p t s) (d : Datum → Value) (none : Ending) where
   some-left : some (t p) ≡ some (remembered l s every)
   some-left =
       ap (λ (q : Row643 → Bool). some (t q)) (fun-ext (λ r. sym (and-true (p r))))
       ∙ ap (λ (u : Table Row643). some (u every)) (sym (k .same))
 
-  -- some row is left where one has the property
-  pub left-some : some (t p) ≡ true → s .len ≡ 0 → ⊥
-  left-some h e = false≢true (sym (some-left ∙ ap some (none-left l s e)) ∙ h)
-
--- a filter that leaves no row is refused; else it goes on with what it leaves
-module _ {l : List ℕ} {p : Row643 → Bool} {t : Table Row643} {s : Remembered} (k : Thinned l p t s) (d : Datum → Value) (none : Ending) where
   pub narrow-none : s .len ≡ 0 → run d (narrow p none t) ≡ Refused (Ends none) tt
   unfolding narrow when refuse
-  narrow-none e = rw (some-left k ∙ ap some (none-left l s e))
+  narrow-none e = rw (some-left ∙ ap some (none-left l s e))
 
   some-of-number : (h : Hits Row643) → (number h ≡ 0 → ⊥) → some h ≡ true
   some-of-number None z = absurd (z refl)
@@ -50,7 +47,15 @@ module _ {l : List ℕ} {p : Row643 → Bool} {t : Table Row643} {s : Remembered
 
   pub narrow-some : (s .len ≡ 0 → ⊥) → run d (narrow p none t) ≡ Chosen (remembered l s)
   unfolding narrow when
-  narrow-some z = rw (some-left k ∙ some-of-number (remembered l s every) (λ e. z (sym (number-left l s) ∙ e))) (ap Chosen (sym (k .same)))
+  narrow-some z = rw (some-left ∙ some-of-number (remembered l s every) (λ e. z (sym (number-left l s) ∙ e))) (ap Chosen (sym (k .same)))
+
+-- which of step 9's two filters the rows are kept by
+module _ (f : Frequency) (t : Table Row643) where
+  pub kept-exact : some (t (filter643 (Exact f))) ≡ true → Exact f ≡ frequency-kept f t
+  kept-exact h = rw h
+
+  pub kept-twin : some (t (filter643 (Exact f))) ≡ false → Twin f ≡ frequency-kept f t
+  kept-twin h = rw h
 
 -- step 9, by the tests of the entered frequency
 module _ (p : Prescription) (t : Table Row643) where
@@ -67,13 +72,20 @@ module _ (p : Prescription) (t : Table Row643) where
   has-count = some (t (filter643 (Count (frequency-of p))))
 
   module _ (d : Datum → Value) where
-    pub frequency-exact : has-exact ≡ true → run d (by-frequency p t) ≡ Chosen (among (filter643 (Exact (frequency-of p))) t)
+    frequency-exact : has-exact ≡ true → run d (by-frequency p t) ≡ Chosen (among (filter643 (Exact (frequency-of p))) t)
     unfolding by-frequency when
     frequency-exact h = rw (exact-filter p, h)
 
-    pub frequency-twin : has-exact ≡ false → has-twin ≡ true → run d (by-frequency p t) ≡ Chosen (among (filter643 (Twin (frequency-of p))) t)
+    frequency-twin : has-exact ≡ false → has-twin ≡ true → run d (by-frequency p t) ≡ Chosen (among (filter643 (Twin (frequency-of p))) t)
     unfolding by-frequency when
     frequency-twin h k = rw (exact-filter p, twin-filter p, h, k)
+
+    pub frequency-found : (q : Filter) → q ≡ frequency-kept (frequency-of p) t → some (t (filter643 q)) ≡ true → run d (by-frequency p t) ≡ Chosen (among (filter643 q) t)
+    frequency-found = go has-exact refl
+      where
+        go : (b : Bool) → has-exact ≡ b → (q : Filter) → q ≡ cond b (Exact (frequency-of p)) (Twin (frequency-of p)) → some (t (filter643 q)) ≡ true → run d (by-frequency p t) ≡ Chosen (among (filter643 q) t)
+        go true h q e hit = rw e (frequency-exact h)
+        go false h q e hit = rw e (frequency-twin h (rw e at hit))
 
     pub frequency-none : has-exact ≡ false → has-twin ≡ false → run d (by-frequency p t) ≡ Refused (Ends (NoFrequency (signal p t))) tt
     unfolding by-frequency no-frequency when refuse

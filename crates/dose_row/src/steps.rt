@@ -1,13 +1,10 @@
-// Steps 9 and 10 on the remembered rows: a method by value for each filter, which hands the thinned set back; of_age fills it for step 8.
+// Steps 9 and 10 on the remembered rows. The filters are methods by value that hand the thinned set back: of_age, thin by the frequency, by_weight, by_surface.
 ghost use mathlib.Core.Path.{_≡_};
-ghost use Rattle.guideline.specs.declared.refusals.Ending.the-variants.{NoFrequency};
-ghost use Rattle.guideline.specs.declared.refusals.Refusal.the-variants.{Ends};
-ghost use Rattle.guideline.specs.Steps.{signal, by-frequency};
+ghost use Rattle.guideline.specs.Steps.{signal};
 ghost use Rattle.filter.specs.declared.Filter.the-variants.{Encloses};
 ghost use Rattle.filter.specs.declared.Measure.the-variants.{Weight, Surface};
 ghost use Rattle.filter.specs.Filters.{filter643};
-ghost use Rattle.dose_row.specs.Remembered.{remembered, Valid, Thinned, Narrows};
-use crate::remembered::Place;
+ghost use Rattle.dose_row.specs.Remembered.{remembered, Valid, Thinned};
 use crate::remembered::Remembered;
 use filter::Filter;
 use filter::Measure;
@@ -28,20 +25,6 @@ impl Remembered {
             return Signal::OnlyUnit;
         }
         Signal::Both
-    }
-
-    // Step 9. "Frequency: same count and unit on one row. If none, same count and the twin unit."
-    pub fn by_frequency(self, t643: &[u8], p: Prescription) -> Remembered
-        requires { ⌜ Valid (now t643) self ⌝ }
-        ensures { λ r. ⌜ Narrows (now (t643 .entry)) (by-frequency p (remembered (now (t643 .entry)) self)) (Ends (NoFrequency (signal p (remembered (now (t643 .entry)) self)))) r ⌝ }
-    {
-        let f = filter::entered(p);
-        let place = self.search(t643, f);
-        match place {
-            Place::Exact(i) => self.thin(i, t643, Filter::Exact(f)),
-            Place::Twin(i) => self.thin(i, t643, Filter::Twin(f)),
-            Place::Nowhere => Remembered::none(),
-        }
     }
 
     // Step 10. "Keep enclosing rows."

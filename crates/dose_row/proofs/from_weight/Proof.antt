@@ -1,13 +1,15 @@
 -- The step is refused, or the next link follows, where the weight matters to no row with the same rows. Assumes nothing.
 use borrow.Author.Needs.{needs}
-use mathlib.Core.Path.{sym, _∙_}
+use mathlib.Core.Path.{_≡_, sym, _∙_}
 use borrow.Author.Tests.{not-true, not-false}
 use denote.Ref.{now}
 use Rattle.guideline.specs.declared.refusals.Ending.the-variants.{NoRowForWeight}
 use Rattle.guideline.specs.declared.refusals.Question.the-variants.{WeightOfRow}
+use Rattle.guideline.specs.Ask.{run}
 use Rattle.guideline.specs.Entries.{datum}
 use Rattle.guideline.specs.Rows.{weight-bounds}
 use Rattle.guideline.specs.Steps.{by-weight}
+use Rattle.dose_row.specs.Chosen.{chosen643}
 use Rattle.dose_row.specs.Links.{from-weight, from-surface}
 use Rattle.dose_row.specs.Remembered.{remembered}
 use Rattle.dose_row.proofs.Links.{unneeded-then, blank-here, none-here, left-then}
@@ -52,8 +54,8 @@ returns-4 c =
     let a = at-if .before .before .before .args in
     let t = remembered (now (a .t643)) (a .set) in
     let needed = sym (at-if .before .any .ensures) ∙ not-false _ (at-if .if1 .left) in
-    c .from-surface2 .ensures
-    ∙ left-then WeightOfRow NoRowForWeight weight-bounds t (datum (a .d)) from-surface needed (at-weight .weight .given .1) (at-left .by-weight .ensures) (c .before .if2 .left)
+    let rest : c .from-surface2 .result ≡ chosen643 (run (datum (a .d)) (from-surface (remembered (now (a .t643)) (at-left .by-weight .result)))) = c .from-surface2 .ensures in
+    rest ∙ left-then WeightOfRow NoRowForWeight weight-bounds t (datum (a .d)) from-surface needed (at-weight .weight .given .1) (at-left .by-weight .ensures) (c .before .if2 .left)
 
 pub from-weight-spec : {M : Type 1} → statement M
 from-weight-spec = tie.close (tie.spec (λ c κs. search needs) (λ c κs. search needs) returns (λ c. search needs) (λ c. search needs) returns-2 (λ c κs. search needs) returns-3 (λ c κs. search needs) returns-4)
