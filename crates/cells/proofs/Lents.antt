@@ -9,31 +9,32 @@ use mathlib.Core.List.{List}
 use Rattle.guideline.specs.Table.{some, number}
 use Rattle.guideline.specs.declared.rows.TableName.{TableName}
 use Rattle.guideline.specs.declared.rows.TableName.the-variants.{T640, T641, T642, T643, T649, T730}
+use Rattle.guideline.specs.declared.view.View.{View}
 use Rattle.guideline.specs.Rows.{Row, width, read-row, key}
-use Rattle.guideline.specs.Bytes.{rows-in, rows-of}
+use Rattle.guideline.specs.Bytes.{seen}
 use Rattle.cells.specs.declared.Tally.{Tally}
 use Rattle.cells.specs.Tally.{told}
-use Rattle.cells.specs.Lents.{rows, row-at, tally-of, key-at}
+use Rattle.cells.specs.Lents.{shown, row-at, tally-of, key-at}
 use Rattle.cells.proofs.Tallied.{hits-tallied, some-told, number-told}
 
 -- what the tally tells of the rows
-module _ (n : TableName) (l : List ℕ) (p : Row n → Bool) where
-  pub rows-told : {t : Tally} → t ≡ tally-of n l p → rows n l p ≡ told (t .count) (row-at n l (t .last))
-  unfolding rows rows-of
-  rows-told e = rw e (hits-tallied p (row-at n l) (rows-in (width n) l))
+module _ (n : TableName) (l : List ℕ) (v : View) (p : Row n → Bool) where
+  pub rows-told : {t : Tally} → t ≡ tally-of n l v p → shown n l v p ≡ told (t .count) (row-at n l v (t .last))
+  unfolding shown seen
+  rows-told e = rw e (hits-tallied p (row-at n l v) (v .rows))
 
-  pub rows-some : {t : Tally} → t ≡ tally-of n l p → some (rows n l p) ≡ not (eqb (t .count) 0)
-  rows-some {t} e = ap some (rows-told e) ∙ some-told (t .count) (row-at n l (t .last))
+  pub rows-some : {t : Tally} → t ≡ tally-of n l v p → some (shown n l v p) ≡ not (eqb (t .count) 0)
+  rows-some {t} e = ap some (rows-told e) ∙ some-told (t .count) (row-at n l v (t .last))
 
-  pub rows-none : {t : Tally} → t ≡ tally-of n l p → not (some (rows n l p)) ≡ eqb (t .count) 0
+  pub rows-none : {t : Tally} → t ≡ tally-of n l v p → not (some (shown n l v p)) ≡ eqb (t .count) 0
   rows-none {t} e = ap not (rows-some e) ∙ go (eqb (t .count) 0)
     where
       go : (b : Bool) → not (not b) ≡ b
       go true = refl
       go false = refl
 
-  pub rows-number : {t : Tally} → t ≡ tally-of n l p → number (rows n l p) ≡ t .count
-  rows-number {t} e = ap number (rows-told e) ∙ number-told (t .count) (row-at n l (t .last))
+  pub rows-number : {t : Tally} → t ≡ tally-of n l v p → number (shown n l v p) ≡ t .count
+  rows-number {t} e = ap number (rows-told e) ∙ number-told (t .count) (row-at n l v (t .last))
 
 -- a row has at most sixteen numbers
 pub width-most : (n : TableName) → width n ≤ 16

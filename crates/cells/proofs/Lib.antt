@@ -1,3 +1,4 @@
+pub mod Views
 pub mod Tallied
 pub mod Lents
 pub mod Moved

@@ -12,7 +12,7 @@ use Rattle.numbers.proofs.ReadBack.{word-on}
 use Rattle.guideline.specs.declared.rows.TableName.{TableName}
 use Rattle.guideline.specs.declared.rows.TableName.the-variants.{T641}
 use Rattle.guideline.specs.Rows.{Row, width, read-row}
-use Rattle.guideline.specs.Bytes.{cell, listed, rows-in, rows-of}
+use Rattle.guideline.specs.Bytes.{cell, listed, rows-in, seen, by-rows, rows-of}
 use Rattle.guideline.proofs.Shuffle.{Shuffled, none, same, swap, then, Reordered, whole-reordering}
 use Rattle.cells.proofs.Lents.{reads, width-some}
 
@@ -41,17 +41,17 @@ module _ (n : TableName) where
       length-append (joined l) r ∙ ap₂ _+_ (joined-length l (h .1)) (h .0) ∙ sym (suc-mul (length l) (width n * 4))
 
   -- the last row, and the rows before it
-  last-row : (l : List ℕ) (r : List ℕ) (m : ℕ) → length l ≡ m * (width n * 4) → read-row n (cell (width n) (l ++ r) m) ≡ row-of n r
+  last-row : (l : List ℕ) (r : List ℕ) (m : ℕ) → length l ≡ m * (width n * 4) → read-row n (cell (l ++ r) (by-rows n (l ++ r)) m) ≡ row-of n r
   last-row l r m e = reads n _ _ (λ k below. ap (word (l ++ r)) (place k) ∙ word-behind l r (k * 4))
     where
-      place : (k : ℕ) → (m * width n + k) * 4 ≡ length l + k * 4
+      place : (k : ℕ) → (0 + m * width n + k * 1) * 4 ≡ length l + k * 4
       place k = rw e (let a : m * width n * 4 ≡ m * (width n * 4) = mul-assoc m (width n) 4 in let b : (m * width n + k) * 4 ≡ m * width n * 4 + k * 4 = add-mul (m * width n) k 4 in omega arith)
 
-  row-before : (l : List ℕ) (r : List ℕ) (m i : ℕ) → length l ≡ m * (width n * 4) → i < m → read-row n (cell (width n) (l ++ r) i) ≡ read-row n (cell (width n) l i)
+  row-before : (l : List ℕ) (r : List ℕ) (m i : ℕ) → length l ≡ m * (width n * 4) → i < m → read-row n (cell (l ++ r) (by-rows n (l ++ r)) i) ≡ read-row n (cell l (by-rows n l) i)
   row-before l r m i e below =
-      reads n _ _ (λ k inside. word-on l r ((i * width n + k) * 4) (room k inside))
+      reads n _ _ (λ k inside. word-on l r ((0 + i * width n + k * 1) * 4) (room k inside))
     where
-      room : (k : ℕ) → k < width n → (i * width n + k) * 4 + 4 ≤ length l
+      room : (k : ℕ) → k < width n → (0 + i * width n + k * 1) * 4 + 4 ≤ length l
       room k inside =
           let a : (i + 1) * (width n * 4) ≤ m * (width n * 4) = mul-le-mul-right (width n * 4) (omega arith) in
           let b : (i + 1) * (width n * 4) ≡ i * (width n * 4) + 1 * (width n * 4) = add-mul i 1 (width n * 4) in
@@ -59,11 +59,11 @@ module _ (n : TableName) where
           let d : (i * width n + k) * 4 ≡ i * width n * 4 + k * 4 = add-mul (i * width n) k 4 in
           omega (arith, e)
 
-  listed-before : (l r : List ℕ) (m j : ℕ) → length l ≡ m * (width n * 4) → j ≤ m → listed j (λ i. read-row n (cell (width n) (l ++ r) i)) ≡ listed j (λ i. read-row n (cell (width n) l i))
+  listed-before : (l r : List ℕ) (m j : ℕ) → length l ≡ m * (width n * 4) → j ≤ m → listed j (λ i. read-row n (cell (l ++ r) (by-rows n (l ++ r)) i)) ≡ listed j (λ i. read-row n (cell l (by-rows n l) i))
   listed-before l r m zero e h = refl
   listed-before l r m (suc j) e h = ap₂ _∷_ (row-before l r m j e (omega arith)) (listed-before l r m j e (omega arith))
 
-  joined-listed : (l : List (List ℕ)) → Rowly n l → listed (length l) (λ i. read-row n (cell (width n) (joined l) i)) ≡ map (row-of n) l
+  joined-listed : (l : List (List ℕ)) → Rowly n l → listed (length l) (λ i. read-row n (cell (joined l) (by-rows n (joined l)) i)) ≡ map (row-of n) l
   joined-listed [] h = refl
   joined-listed (r ∷ l) h =
       ap₂ _∷_ (last-row (joined l) r (length l) (joined-length l (h .1)))
@@ -79,8 +79,8 @@ module _ (n : TableName) where
   joined-whole l h = ap (λ (k : ℕ). k % (width n * 4)) (joined-length l h) ∙ mul-mod-left (length l) (width n * 4)
 
   pub joined-spells : (l : List (List ℕ)) → Rowly n l → rows-of n (joined l) ≡ map (row-of n) l
-  unfolding rows-of
-  joined-spells l h = ap (λ (k : ℕ). listed k (λ i. read-row n (cell (width n) (joined l) i))) (joined-rows l h) ∙ joined-listed l h
+  unfolding seen
+  joined-spells l h = ap (λ (k : ℕ). listed k (λ i. read-row n (cell (joined l) (by-rows n (joined l)) i))) (joined-rows l h) ∙ joined-listed l h
 
   map-shuffled : {l m : List (List ℕ)} → Shuffled l m → Shuffled (map (row-of n) l) (map (row-of n) m)
   map-shuffled none = none

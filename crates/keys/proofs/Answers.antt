@@ -1,62 +1,22 @@
--- Asked about rows with its key, a stretch answers as the table does. Assumes nothing.
-use Prim.Native.Nat.{ℕ, zero, suc, _+_, _-_, _*_, _/_, _≤_, _<_}
+-- Asked about rows with its key, a stretch answers as the view does. Assumes nothing.
+use Prim.Native.Nat.{ℕ, zero, suc, _+_, _-_, _≤_, _<_}
 use mathlib.Core.Path.{_≡_, refl, sym, _∙_, ap, ap₂}
 use mathlib.Core.Bool.{Bool, false}
 use mathlib.Core.List.{List, _∷_}
-use native.Mathlib.Nat.{add-zero, add-suc, add-assoc, add-mul, mul-assoc, mul-comm, mul-sub, mul-le-mul-right, mul-div-cancel}
+use native.Mathlib.Nat.{add-zero, add-suc}
 use native.Mathlib.Decide.{le-ind}
 use native.Mathlib.Omega.{arith}
-use lib.ListN.{length, drop, getD, length-drop}
-use lib.Seq.{length-take-le, getD-take, getD-drop}
-use Rattle.numbers.specs.Words.{word}
+use lib.ListN.{length}
 use Rattle.guideline.specs.Table.{keep, hits, table}
 use Rattle.guideline.specs.declared.rows.TableName.{TableName}
+use Rattle.guideline.specs.declared.view.View.{View}
 use Rattle.guideline.specs.Rows.{Row, width, read-row}
-use Rattle.guideline.specs.Bytes.{cell, listed, rows-in, rows-of}
-use Rattle.cells.specs.Lents.{key-at}
-use Rattle.cells.proofs.Lents.{key-inside, reads}
-use Rattle.keys.specs.Stretch.{Stretch}
-use Rattle.keys.proofs.Inside.{row-inside, cell-inside}
-
--- how many rows the stretch has, and where they stand in the table
-module _ {w k key : ℕ} {l m : List ℕ} (in-row : k < w) (q : Stretch w k key l m) where
-  abbrev skipped : ℕ
-  skipped = q .from * (w * 4)
-
-  stretch-length : length m ≡ q .to * (w * 4) - skipped
-  stretch-length =
-      let a : skipped ≤ q .to * (w * 4) = mul-le-mul-right (w * 4) (q .last .0) in
-      let b : q .to * (w * 4) ≤ length l = row-inside w (q .to) l (q .last .1) in
-      let d : length (drop skipped l) ≡ length l - skipped = length-drop skipped l in
-      ap length (q .cut) ∙ length-take-le (q .to * (w * 4) - skipped) (drop skipped l) (omega arith)
-
-  stretch-rows : rows-in w m ≡ q .to - q .from
-  stretch-rows =
-      let e : q .to * (w * 4) - skipped ≡ (q .to - q .from) * (w * 4) =
-      rw (mul-comm (q .to - q .from) (w * 4), mul-sub (w * 4) (q .to) (q .from), mul-comm (w * 4) (q .to), mul-comm (w * 4) (q .from)) in
-      ap (λ (n : ℕ). n / (w * 4)) (stretch-length ∙ e) ∙ mul-div-cancel (q .to - q .from) {n = w * 4} (omega arith)
-
-  stretch-at : (n : ℕ) → n < length m → getD m n 0 ≡ getD l (skipped + n) 0
-  stretch-at n h =
-      let e : length m ≡ q .to * (w * 4) - skipped = stretch-length in
-      ap (λ (x : List ℕ). getD x n 0) (q .cut)
-      ∙ getD-take (q .to * (w * 4) - skipped) (drop skipped l) n 0 (omega arith)
-      ∙ getD-drop skipped l n 0
-
-  stretch-word : (n : ℕ) → n + 4 ≤ length m → word m n ≡ word l (skipped + n)
-  unfolding word
-  stretch-word n h =
-      rw (stretch-at n (omega arith), stretch-at (n + 1) (omega arith), stretch-at (n + 2) (omega arith), stretch-at (n + 3) (omega arith), add-assoc skipped n 1, add-assoc skipped n 2, add-assoc skipped n 3)
-
-  stretch-cell : (i j : ℕ) → i < q .to - q .from → j < w → cell w m i j ≡ cell w l (q .from + i) j
-  stretch-cell i j h in-row-too =
-      stretch-word ((i * w + j) * 4) (cell-inside w i j m in-row-too (rw stretch-rows h)) ∙ ap (word l) place
-    where
-      place : skipped + (i * w + j) * 4 ≡ ((q .from + i) * w + j) * 4
-      place =
-          let a : (q .from + i) * w ≡ q .from * w + i * w = add-mul (q .from) i w in
-          let b : q .from * w * 4 ≡ skipped = mul-assoc (q .from) w 4 in
-          omega arith
+use Rattle.guideline.specs.Bytes.{cell, listed, seen}
+use Rattle.cells.specs.Views.{Fits, narrowed}
+use Rattle.cells.specs.Lents.{shown, row-at, key-at}
+use Rattle.cells.proofs.Views.{narrowed-read, narrowed-fits}
+use Rattle.cells.proofs.Lents.{reads}
+use Rattle.keys.specs.Keys.{Stretch}
 
 -- rows without a property do not tell whether there are more of them
 module _ {A : Type 0} (p : A → Bool) where
@@ -68,32 +28,32 @@ module _ {A : Type 0} (p : A → Bool) where
   keep-from f a zero h = rw (add-zero a) (keep-below f 0 a (omega arith) (λ i above. h i))
   keep-from f a (suc n) h = rw (add-suc a n, keep-from f a n h)
 
-pub listed-same : {A : Type 0} (f g : ℕ → A) (n : ℕ) → ((i : ℕ) → i < n → f i ≡ g i) → listed n f ≡ listed n g
+listed-same : {A : Type 0} (f g : ℕ → A) (n : ℕ) → ((i : ℕ) → i < n → f i ≡ g i) → listed n f ≡ listed n g
 listed-same f g zero h = refl
 listed-same f g (suc n) h = ap₂ _∷_ (h n (omega arith)) (listed-same f g n (λ i below. h i (omega arith)))
 
--- asked about a property that only rows with the key can have, the stretch answers as the table does
-pub stretch-answers : (n : TableName) {k : ℕ} {l m : List ℕ} (p : Row n → Bool) → ((f : ℕ → ℕ) → (f (key-at n) ≡ k → ⊥) → p (read-row n f) ≡ false) → Stretch (width n) (key-at n) k l m → table (rows-of n m) p ≡ table (rows-of n l) p
-unfolding rows-of
-stretch-answers n {k} {l} {m} p other q =
+-- a narrower view, asked about a property that no row has that it leaves out, answers as the view does
+pub narrowed-answers : (n : TableName) (l : List ℕ) (v : View) (a b : ℕ) (p : Row n → Bool) → a ≤ b → b ≤ v .rows → ((i : ℕ) → i < a → p (row-at n l v i) ≡ false) → ((i : ℕ) → b ≤ i → i < v .rows → p (row-at n l v i) ≡ false) → shown n l (narrowed v a b) p ≡ shown n l v p
+unfolding shown seen
+narrowed-answers n l v a b p order most before after =
     ap hits
-    (ap (keep p) (listed-same own shifted (rows-in w m) (λ i below. reads n (cell w m i) (cell w l (q .from + i)) (λ j. stretch-cell (key-inside n) q i j (rw (← stretch-rows (key-inside n) q) below))))
-    ∙ ap (λ (x : ℕ). keep p (listed x shifted)) (stretch-rows (key-inside n) q)
-    ∙ sym (keep-from p row (q .from) (q .to - q .from) (λ i below. other (cell w l i) (q .first .2 i (omega arith) below)))
-    ∙ ap (λ (x : ℕ). keep p (listed x row)) up-to
-    ∙ sym (keep-below p row (q .to) (rows-in w l) (q .last .1) (λ i above below. other (cell w l i) (q .last .2 i above below))))
+    (ap (keep p) (listed-same (row-at n l (narrowed v a b)) (λ i. row (a + i)) (b - a) (λ i below. reads n _ _ (λ j in-row. narrowed-read l v a b i j)))
+    ∙ sym (keep-from p row a (b - a) before)
+    ∙ ap (λ (m : ℕ). keep p (listed m row)) up-to
+    ∙ sym (keep-below p row b (v .rows) most after))
   where
-    w : ℕ
-    w = width n
-
-    own : ℕ → Row n
-    own i = read-row n (cell w m i)
-
     row : ℕ → Row n
-    row i = read-row n (cell w l i)
+    row = row-at n l v
 
-    shifted : ℕ → Row n
-    shifted i = row (q .from + i)
+    up-to : a + (b - a) ≡ b
+    up-to = omega arith
 
-    up-to : q .from + (q .to - q .from) ≡ q .to
-    up-to = let h : q .from ≤ q .to = q .last .0 in omega arith
+module _ (n : TableName) {key : ℕ} {l : List ℕ} {v r : View} (s : Stretch l v (key-at n) key r) where
+  -- asked about a property that only rows with the key can have, the stretch answers as the view does
+  pub stretch-answers : (p : Row n → Bool) → ((f : ℕ → ℕ) → (f (key-at n) ≡ key → ⊥) → p (read-row n f) ≡ false) → shown n l r p ≡ shown n l v p
+  stretch-answers p other =
+      ap (λ (x : View). shown n l x p) (s .cut)
+      ∙ narrowed-answers n l v (s .from) (s .to) p (s .order) (s .most) (λ i below. other (cell l v i) (s .before i (omega arith) below)) (λ i above below. other (cell l v i) (s .after i above below))
+
+  pub stretch-fits : Fits (width n) v (length l) → Fits (width n) r (length l)
+  stretch-fits f = rw (s .cut) (narrowed-fits (s .from) (s .to) (s .order) (s .most) f)

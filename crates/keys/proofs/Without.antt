@@ -3,26 +3,24 @@ use Prim.Native.Nat.{ℕ, _+_, _<_, _≤_}
 use mathlib.Core.Path.{_≡_, refl, subst}
 use mathlib.Core.Logic.{⊎-elim}
 use mathlib.Core.Bool.{Bool, true, false, _||_}
-use mathlib.Core.List.{List}
 use native.Mathlib.Nat.{eq-or-lt-of-le}
 use native.Mathlib.Omega.{arith}
 use borrow.Author.Tests.{eqb-false, ltb-true, ltb-false}
 use lib.Dec.{ltb}
-use Rattle.guideline.specs.Bytes.{cell}
-use Rattle.keys.specs.Stretch.{Without, has-key, in-four}
+use Rattle.keys.specs.Keys.{Without, has-key, in-four}
 
 -- no rows; one row; four rows; rows and further rows
-module _ (w k key : ℕ) (l : List ℕ) where
+module _ (f : ℕ → ℕ) (key : ℕ) where
   abbrev Other : ℕ → Type 0
-  Other i = cell w l i k ≡ key → ⊥
+  Other i = f i ≡ key → ⊥
 
   moved : (i j : ℕ) → i ≡ j → Other i → Other j
   moved i j e other = subst Other e other
 
-  pub without-none : (a : ℕ) → Without w k key l a a
+  pub without-none : (a : ℕ) → Without f key a a
   without-none a i above below same = omega arith
 
-  pub without-one : (i : ℕ) → Other i → Without w k key l i (i + 1)
+  pub without-one : (i : ℕ) → Other i → Without f key i (i + 1)
   without-one i other j above below = moved i j (omega arith) other
 
   none-of-four : (p q r s : Bool) → ((p || q) || (r || s)) ≡ false → (p ≡ false) × (q ≡ false) × (r ≡ false) × (s ≡ false)
@@ -32,19 +30,19 @@ module _ (w k key : ℕ) (l : List ℕ) where
   none-of-four false true r s h = absurd (let z : _≡_ {A = ℕ} 0 1 = cc in let n : ⊥ = omega arith in n)
   none-of-four true q r s h = absurd (let z : _≡_ {A = ℕ} 0 1 = cc in let n : ⊥ = omega arith in n)
 
-  pub without-four : (i : ℕ) → in-four w k key l i ≡ false → Without w k key l i (i + 4)
+  pub without-four : (i : ℕ) → in-four f key i ≡ false → Without f key i (i + 4)
   unfolding in-four
   without-four i h j above below =
-      let none = none-of-four (has-key w k key l i) (has-key w k key l (i + 1)) (has-key w k key l (i + 2)) (has-key w k key l (i + 3)) h in
-      ⊎-elim (λ e. moved i j e (eqb-false (cell w l i k) key (none .0)))
-      (λ more. ⊎-elim (λ e. moved (i + 1) j e (eqb-false (cell w l (i + 1) k) key (none .1)))
-      (λ more. ⊎-elim (λ e. moved (i + 2) j e (eqb-false (cell w l (i + 2) k) key (none .2)))
-      (λ more. moved (i + 3) j (omega arith) (eqb-false (cell w l (i + 3) k) key (none .3)))
+      let none = none-of-four (has-key f key i) (has-key f key (i + 1)) (has-key f key (i + 2)) (has-key f key (i + 3)) h in
+      ⊎-elim (λ e. moved i j e (eqb-false (f i) key (none .0)))
+      (λ more. ⊎-elim (λ e. moved (i + 1) j e (eqb-false (f (i + 1)) key (none .1)))
+      (λ more. ⊎-elim (λ e. moved (i + 2) j e (eqb-false (f (i + 2)) key (none .2)))
+      (λ more. moved (i + 3) j (omega arith) (eqb-false (f (i + 3)) key (none .3)))
       (eq-or-lt-of-le {n = i + 2} {m = j} (omega arith)))
       (eq-or-lt-of-le {n = i + 1} {m = j} (omega arith)))
       (eq-or-lt-of-le above)
 
-  pub without-both : (a b c : ℕ) → Without w k key l a b → Without w k key l b c → Without w k key l a c
+  pub without-both : (a b c : ℕ) → Without f key a b → Without f key b c → Without f key a c
   without-both a b c h more j above below = go (ltb j b) (ltb-true j b) (ltb-false j b)
     where
       go : (t : Bool) → (t ≡ true → j < b) → (t ≡ false → b ≤ j) → Other j

@@ -1,1 +1,3 @@
-pub mod Stretch
+pub mod Keys
+pub mod Rising
+pub mod Seen

@@ -1,24 +1,26 @@
-// The rows of a table that have a key.
+// How many rows have a key, and the last of them.
 ghost use mathlib.Core.Path.{_≡_};
-ghost use Prim.Native.Nat.{_≤_, _<_};
-ghost use Rattle.guideline.specs.Bytes.{rows-in};
+ghost use Prim.Native.Nat.{_+_};
+ghost use lib.ListN.{length};
 ghost use Rattle.cells.specs.Tally.{tallied};
-ghost use Rattle.keys.specs.Stretch.{has-key};
+ghost use Rattle.cells.specs.Views.{Fits};
+ghost use Rattle.keys.specs.Keys.{key-of, has-key};
 use crate::next::next;
 use cells::Tally;
+use guideline::view::View;
 
-pub fn keyed(t: &[u8], width: usize, k: usize, key: u32) -> Tally
-    requires { ⌜ (k < width) × (width ≤ 16) ⌝ }
-    ensures { λ r. ⌜ r ≡ tallied (has-key width k key (now (t .entry))) (rows-in width (now (t .entry))) ⌝ }
+pub fn keyed(t: &[u8], v: View, k: usize, key: u32) -> Tally
+    requires { ⌜ Fits (k + 1) v (length (now t)) ⌝ }
+    ensures { λ r. ⌜ r ≡ tallied (has-key (key-of (now (t .entry)) v k) key) (v .rows) ⌝ }
 {
-    let rows = t.len() / (width * 4);
+    let rows = v.rows;
     let mut count: usize = 0;
     let mut last: usize = 0;
-    let mut i = next(t, width, k, key, 0);
+    let mut i = next(t, v, k, key, 0);
     while i < rows {
         count += 1;
         last = i;
-        i = next(t, width, k, key, i + 1);
+        i = next(t, v, k, key, i + 1);
     }
     Tally { count, last }
 }

@@ -4,26 +4,24 @@ use Prim.Native.Nat.{_+_, _-_, _≤_}
 use mathlib.Core.Path.{sym, _∙_}
 use native.Mathlib.Omega.{arith}
 use denote.Ref.{now}
-use Rattle.guideline.specs.Bytes.{rows-in}
-use Rattle.keys.specs.Stretch.{Without}
+use Rattle.keys.specs.Keys.{key-of, Without}
 use Rattle.keys.proofs.Without.{without-one, without-both}
-use Rattle.keys.proofs.Inside.{cell-inside}
 use Rattle.keys.proofs.stretch.end.Statement.{statement}
 use Rattle.keys.proofs.stretch.end.Tie as tie
 
 abbrev Inv-loop : tie.InvT-loop
-Inv-loop t width k key from i₀ i = (from ≤ i) × (i ≤ rows-in width t) × Without width k key t i (rows-in width t)
+Inv-loop t v k key from i₀ i = (from ≤ i) × (i ≤ v .rows) × Without (key-of t v k) key i (v .rows)
 
 abbrev μ-loop : tie.MeasureT-loop
-μ-loop t width k key from i₀ i = i
+μ-loop t v k key from i₀ i = i
 
 loop-holds : tie.Need-loop-holds Inv-loop μ-loop
 loop-holds c = c .fours-back .ensures
 
 cell-requires : tie.Need-cell-requires Inv-loop μ-loop
 cell-requires c κs =
-    let a = c .before .before .before .before .args in
-    cell-inside (a .width) (c .before .loop .i - 1) (a .k) (now (a .t)) (omega arith) (omega arith)
+    let s = c .before .before .before .before in
+    s .pre .0 .inside (c .before .loop .i - 1) (s .args .k) (omega arith) (omega arith)
 
 returns : tie.Need-returns Inv-loop μ-loop
 returns c =
@@ -33,10 +31,10 @@ returns c =
 loop-again : tie.Need-loop-again Inv-loop μ-loop
 loop-again c =
     let a = c .before .before .before .before .before .before .args in
+    let f = key-of (now (a .t)) (a .v) (a .k) in
     let i = c .before .before .before .loop .i in
-    let n = rows-in (a .width) (now (a .t)) in
-    let one = without-one (a .width) (a .k) (a .key) (now (a .t)) (i - 1) (λ same. c .if1 .left (c .before .cell .ensures ∙ same)) in
-    (omega arith, omega arith, λ m past. without-both (a .width) (a .k) (a .key) (now (a .t)) (i - 1) (i - 1 + 1) n one (λ j above. c .before .before .before .loop .inv .2 j (omega arith)) m (omega arith))
+    let one = without-one f (a .key) (i - 1) (λ same. c .if1 .left (c .before .cell .ensures ∙ same)) in
+    (omega arith, omega arith, without-both f (a .key) (i - 1) (i - 1 + 1) (a .v .rows) one (λ j above. c .before .before .before .loop .inv .2 j (omega arith)))
 
 returns-2 : tie.Need-returns-2 Inv-loop μ-loop
 returns-2 c =

@@ -3,22 +3,24 @@ use borrow.Author.Needs.{needs}
 use Prim.Native.Nat.{_+_, _-_, _≤_}
 use native.Mathlib.Omega.{arith}
 use denote.Ref.{now}
-use Rattle.guideline.specs.Bytes.{rows-in}
-use Rattle.keys.specs.Stretch.{Without}
+use Rattle.keys.specs.Keys.{key-of, Without}
 use Rattle.keys.proofs.Without.{without-none, without-four, without-both}
 use Rattle.keys.proofs.stretch.fours_back.Statement.{statement}
 use Rattle.keys.proofs.stretch.fours_back.Tie as tie
 
 abbrev Inv-loop : tie.InvT-loop
-Inv-loop t width k key from i₀ i = (from ≤ i) × (i ≤ rows-in width t) × Without width k key t i (rows-in width t)
+Inv-loop t v k key from i₀ i = (from ≤ i) × (i ≤ v .rows) × Without (key-of t v k) key i (v .rows)
 
 abbrev μ-loop : tie.MeasureT-loop
-μ-loop t width k key from i₀ i = i
+μ-loop t v k key from i₀ i = i
 
 loop-holds : tie.Need-loop-holds Inv-loop μ-loop
 loop-holds c =
     let a = c .before .args in
-    (omega arith, omega arith, without-none (a .width) (a .k) (a .key) (now (a .t)) (rows-in (a .width) (now (a .t))))
+    (c .before .pre .1, omega arith, without-none (key-of (now (a .t)) (a .v) (a .k)) (a .key) (a .v .rows))
+
+in-four-requires : tie.Need-in-four-requires Inv-loop μ-loop
+in-four-requires c κs = (c .before .before .before .pre .0, omega arith)
 
 returns : tie.Need-returns Inv-loop μ-loop
 returns c = c .before .before .before .loop .inv
@@ -26,13 +28,13 @@ returns c = c .before .before .before .loop .inv
 loop-again : tie.Need-loop-again Inv-loop μ-loop
 loop-again c =
     let a = c .before .before .before .before .before .args in
+    let f = key-of (now (a .t)) (a .v) (a .k) in
     let i = c .before .before .before .loop .i in
-    let n = rows-in (a .width) (now (a .t)) in
-    let four = without-four (a .width) (a .k) (a .key) (now (a .t)) (i - 4) (rw (← c .before .in-four .ensures) (c .if1 .left)) in
-    (omega arith, omega arith, without-both (a .width) (a .k) (a .key) (now (a .t)) (i - 4) (i - 4 + 4) n four (λ j above. c .before .before .before .loop .inv .2 j (omega arith)))
+    let four = without-four f (a .key) (i - 4) (rw (← c .before .in-four .ensures) (c .if1 .left)) in
+    (omega arith, omega arith, without-both f (a .key) (i - 4) (i - 4 + 4) (a .v .rows) four (λ j above. c .before .before .before .loop .inv .2 j (omega arith)))
 
 returns-2 : tie.Need-returns-2 Inv-loop μ-loop
 returns-2 c = c .before .loop .inv
 
 pub fours-back-spec : {M : Type 1} → statement M
-fours-back-spec = tie.close (tie.spec Inv-loop μ-loop (λ c. search needs) (λ c. search needs) loop-holds (λ c. search needs) (λ c. search needs) (λ c κs. search needs) returns (λ c. search needs) loop-again returns-2)
+fours-back-spec = tie.close (tie.spec Inv-loop μ-loop loop-holds (λ c. search needs) (λ c. search needs) in-four-requires returns (λ c. search needs) loop-again returns-2)
