@@ -7,31 +7,32 @@ use native.Mathlib.Omega.{arith}
 use lib.Dec.{eqb}
 use Rattle.guideline.specs.declared.rows.TableName.{TableName}
 use Rattle.guideline.specs.Table.{Hits, None, One, Many}
-use Rattle.guideline.specs.Rows.{Row, width, keyed}
-use Rattle.guideline.specs.Bytes.{cell, rows-in}
+use Rattle.guideline.specs.declared.view.View.{View}
+use Rattle.guideline.specs.Rows.{Row, keyed}
+use Rattle.guideline.specs.Bytes.{cell}
 use Rattle.cells.specs.declared.Tally.{Tally}
 use Rattle.cells.specs.Tally.{tallied}
-use Rattle.cells.specs.Lents.{rows, row-at, tally-of, key-at}
+use Rattle.cells.specs.Lents.{shown, row-at, tally-of, key-at}
 use Rattle.cells.proofs.Tallied.{last-below, told-none, told-one, told-many}
 use Rattle.cells.proofs.Lents.{rows-told, key-read}
-use Rattle.keys.specs.Stretch.{has-key}
+use Rattle.keys.specs.Keys.{key-of, has-key}
 
-module _ {F : Type 0} (n : TableName) (l : List ℕ) (p : Row n → Bool) (found : Hits (Row n) → F) {t : Tally} (e : t ≡ tally-of n l p) where
-  pub tells-none : t .count ≡ 0 → found None ≡ found (rows n l p)
-  tells-none z = sym (ap found (rows-told n l p e ∙ told-none _ z))
+module _ {F : Type 0} (n : TableName) (l : List ℕ) (v : View) (p : Row n → Bool) (found : Hits (Row n) → F) {t : Tally} (e : t ≡ tally-of n l v p) where
+  pub tells-none : t .count ≡ 0 → found None ≡ found (shown n l v p)
+  tells-none z = sym (ap found (rows-told n l v p e ∙ told-none _ z))
 
-  pub tells-one : {r : Row n} → t .count ≡ 1 → r ≡ row-at n l (t .last) → found (One r) ≡ found (rows n l p)
-  tells-one o read = ap (λ (x : Row n). found (One x)) read ∙ sym (ap found (rows-told n l p e ∙ told-one _ o))
+  pub tells-one : {r : Row n} → t .count ≡ 1 → r ≡ row-at n l v (t .last) → found (One r) ≡ found (shown n l v p)
+  tells-one o read = ap (λ (x : Row n). found (One x)) read ∙ sym (ap found (rows-told n l v p e ∙ told-one _ o))
 
-  pub tells-many : (t .count ≡ 0 → ⊥) → (t .count ≡ 1 → ⊥) → found (Many (t .count)) ≡ found (rows n l p)
-  tells-many z o = sym (ap found (rows-told n l p e ∙ told-many _ _ z o))
+  pub tells-many : (t .count ≡ 0 → ⊥) → (t .count ≡ 1 → ⊥) → found (Many (t .count)) ≡ found (shown n l v p)
+  tells-many z o = sym (ap found (rows-told n l v p e ∙ told-many _ _ z o))
 
--- the one row that was counted is a row of the table
-pub last-inside : (n : TableName) (l : List ℕ) (h : ℕ → Bool) {t : Tally} → t ≡ tallied h (rows-in (width n) l) → t .count ≡ 1 → t .last < rows-in (width n) l
-last-inside n l h e o = rw (ap (λ (t : Tally). t .last) e) (last-below h (rows-in (width n) l) (rw (← ap (λ (t : Tally). t .count) e, o) (omega arith)))
+-- the one row that was counted is a row of the view
+pub last-inside : (v : View) (h : ℕ → Bool) {t : Tally} → t ≡ tallied h (v .rows) → t .count ≡ 1 → t .last < v .rows
+last-inside v h e o = rw (ap (λ (t : Tally). t .last) e) (last-below h (v .rows) (rw (← ap (λ (t : Tally). t .count) e, o) (omega arith)))
 
 -- the tally of the rows with a key
-pub keyed-tally : (n : TableName) (k : ℕ) (l : List ℕ) → tallied (has-key (width n) (key-at n) k l) (rows-in (width n) l) ≡ tally-of n l (keyed n k)
+pub keyed-tally : (n : TableName) (k : ℕ) (l : List ℕ) (v : View) → tallied (has-key (key-of l v (key-at n)) k) (v .rows) ≡ tally-of n l v (keyed n k)
 unfolding keyed
-keyed-tally n k l =
-    ap (λ (h : ℕ → Bool). tallied h (rows-in (width n) l)) (fun-ext (λ i. ap (λ (x : ℕ). eqb x k) (sym (key-read n (cell (width n) l i)))))
+keyed-tally n k l v =
+    ap (λ (h : ℕ → Bool). tallied h (v .rows)) (fun-ext (λ i. ap (λ (x : ℕ). eqb x k) (sym (key-read n (cell l v i)))))

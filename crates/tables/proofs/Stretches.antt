@@ -8,24 +8,25 @@ use lib.Dec.{eqb}
 use Rattle.guideline.specs.declared.rows.Row730.{Row730}
 use Rattle.guideline.specs.declared.rows.TableName.{TableName}
 use Rattle.guideline.specs.declared.rows.TableName.the-variants.{T730}
+use Rattle.guideline.specs.declared.view.View.{View}
 use Rattle.guideline.specs.Table.{Hits, among}
-use Rattle.guideline.specs.Rows.{Row, width, keyed}
+use Rattle.guideline.specs.Rows.{Row, keyed}
 use Rattle.guideline.specs.Steps.{unit-row}
-use Rattle.cells.specs.Lents.{rows, key-at}
+use Rattle.cells.specs.Lents.{shown, key-at}
 use Rattle.cells.proofs.Lents.{key-read}
-use Rattle.keys.specs.Stretch.{Stretch}
+use Rattle.keys.specs.Keys.{Stretch}
 use Rattle.keys.proofs.Answers.{stretch-answers}
 use Rattle.tables.specs.Tests.{of-unit}
 
-module _ (n : TableName) {k : ℕ} {l m : List ℕ} (s : Stretch (width n) (key-at n) k l m) where
-  pub stretch-asked : rows n m (keyed n k) ≡ rows n l (keyed n k)
-  unfolding rows keyed
-  stretch-asked = stretch-answers n (keyed n k) (λ f other. rw (key-read n f, ne-eqb (f (key-at n)) k other)) s
+module _ (n : TableName) {k : ℕ} {l : List ℕ} {v r : View} (s : Stretch l v (key-at n) k r) where
+  pub stretch-asked : shown n l r (keyed n k) ≡ shown n l v (keyed n k)
+  unfolding keyed
+  stretch-asked = stretch-answers n s (keyed n k) (λ f other. rw (key-read n f, ne-eqb (f (key-at n)) k other))
 
-  pub stretch-among : among (keyed n k) (rows n m) ≡ among (keyed n k) (rows n l)
-  unfolding rows keyed
+  pub stretch-among : among (keyed n k) (shown n l r) ≡ among (keyed n k) (shown n l v)
+  unfolding keyed
   stretch-among =
-      fun-ext (λ (p : Row n → Bool). stretch-answers n (λ r. keyed n k r && p r) (λ f other. rw (key-read n f, ne-eqb (f (key-at n)) k other)) s)
+      fun-ext (λ (p : Row n → Bool). stretch-answers n s (λ r. keyed n k r && p r) (λ f other. rw (key-read n f, ne-eqb (f (key-at n)) k other)))
 
 -- what step 2 asks of a row of 730 asks for the code too
 pub unit-of-code : (srtcde code unit : ℕ) → unit-row srtcde code unit ≡ (λ (r : Row730). keyed T730 code r && of-unit srtcde unit r)
@@ -37,8 +38,8 @@ unit-of-code srtcde code unit = fun-ext (λ r. and-swap (eqb (r .srtcde) srtcde)
     and-swap false true c = refl
     and-swap false false c = refl
 
-pub unit-asked : {code : ℕ} {l m : List ℕ} → Stretch (width T730) (key-at T730) code l m → (srtcde unit : ℕ) → rows T730 m (unit-row srtcde code unit) ≡ rows T730 l (unit-row srtcde code unit)
-unit-asked {code} {l} {m} s srtcde unit =
-    ap (rows T730 m) (unit-of-code srtcde code unit)
+pub unit-asked : {code : ℕ} {l : List ℕ} {v r : View} → Stretch l v (key-at T730) code r → (srtcde unit : ℕ) → shown T730 l r (unit-row srtcde code unit) ≡ shown T730 l v (unit-row srtcde code unit)
+unit-asked {code} {l} {v} {r} s srtcde unit =
+    ap (shown T730 l r) (unit-of-code srtcde code unit)
     ∙ ap (λ (t : (Row730 → Bool) → Hits Row730). t (of-unit srtcde unit)) (stretch-among T730 s)
-    ∙ sym (ap (rows T730 l) (unit-of-code srtcde code unit))
+    ∙ sym (ap (shown T730 l v) (unit-of-code srtcde code unit))
