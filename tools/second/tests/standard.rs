@@ -1,10 +1,11 @@
 //! The standard run: it reaches every test and tells every wrong version; so do the stored vectors.
 
+use second::check::entry::{AGE, COUNT, SURFACE, TIME_UNIT, WEIGHT};
 use second::check::test::Shape;
 use second::check::{Table, Test};
 use second::fault::{Fault, Part};
 use second::generate::calls::call_case;
-use second::generate::{self, case::Case, proof_table::k_case};
+use second::generate::{self, case::Case, full, proof_table::k_case};
 use second::record::{calls::calls, list::unit_list};
 use second::run::cover::{Coverage, Seen};
 use second::run::faults::{self, Faults};
@@ -100,7 +101,9 @@ fn the_stored_files_are_these_vectors() {
     let (stdin, stdout) = store::stream(&STORED);
     assert!(file("answers/stdin") == stdin && file("answers/stdout") == stdout, "run tools/store");
     assert!(stdin.starts_with(&k_case().bytes()));
-    assert!(STORED.len() == store::CASES && STORED.len() >= 3_000 && stdin.len() < 5_000_000);
+    assert!(
+        STORED.len() == store::CASES + store::key_cases().len() && store::CASES >= 3_000 && stdin.len() < 5_000_000
+    );
     let units = store::unit_input();
     assert!(file("unit_list/stdin").starts_with(&units), "run tools/store");
     assert!(file("unit_list/stdout").starts_with(&unit_list(Right, &units)), "run tools/store");
@@ -108,6 +111,49 @@ fn the_stored_files_are_these_vectors() {
     assert!(file("record_calls/stdin") == stdin && file("record_calls/stdout") == stdout, "run tools/store");
     assert!(stdout.ends_with(b"\nbroken\n") && stdin.len() + stdout.len() < 1_000_000);
     assert_eq!(stdout.iter().filter(|c| **c == b'\n').count(), store::CALLS + 1);
+}
+
+/// Steps 7 and 11 at their bound, each where the keys of 643 rise and where they fall: all of 512 rows fit, one of
+/// 512, one of 513. What is to be answered is document 01's, and what is stored is read from the files.
+#[test]
+fn full_categories_are_stored() {
+    let name = "answers/stdout";
+    let file = std::fs::read_to_string(format!("{}/../../crates/{name}", env!("CARGO_MANIFEST_DIR"))).expect(name);
+    let (key, mut lines, mut seen) = (full::KEY, file.lines(), vec![]);
+    for case in STORED.iter() {
+        let stored: Vec<&str> = lines.by_ref().take(case.entries.len()).collect();
+        let rows = &case.tables[Table::T643 as usize];
+        let of_category: Vec<&[u64]> = rows.cells.chunks_exact(10).filter(|row| row[0] == key).collect();
+        let [entry] = case.entries[..] else { continue };
+        if of_category.is_empty() {
+            continue;
+        }
+        let number = |place: usize| entry[place] as u64;
+        let encloses = |row: &[u64], low: usize, number: u64| {
+            row[low] <= number && (number <= row[low + 1] || row[low + 1] == 999_999)
+        };
+        let fits = |row: &&&[u64]| {
+            encloses(row, 1, 1_000 * number(AGE))
+                && (row[3], row[4]) == (number(COUNT), number(TIME_UNIT))
+                && encloses(row, 5, number(WEIGHT))
+                && encloses(row, 7, number(SURFACE))
+        };
+        let rises = rows.cells.chunks_exact(10).is_sorted_by_key(|row| row[0]);
+        let alone = of_category.len() == rows.count();
+        seen.push((of_category.len(), of_category.iter().filter(fits).count(), rises, alone, stored[0]));
+    }
+    let (all, one, long) = (
+        format!("123 0 643 {key} {key} 0 0 0"),
+        format!("100 0 0 {key} {key} {key} 0 0"),
+        format!("120 0 643 {key} {key} 0 0 0"),
+    );
+    let mut expected = vec![];
+    for (rises, alone) in [(true, true), (false, false), (true, false)] {
+        for (count, fitting, line) in [(512, 512, &all), (512, 1, &one), (513, 1, &long)] {
+            expected.push((count, fitting, rises, alone, &line[..]));
+        }
+    }
+    assert_eq!(seen, expected);
 }
 
 /// More cases than one start of the program gets.

@@ -3,9 +3,12 @@
 mod breakers;
 pub mod calls;
 pub mod case;
+pub mod chains;
 mod directed;
+pub mod full;
 mod heavy;
 mod model;
+pub mod order;
 mod plain;
 pub mod proof_table;
 pub mod records;
@@ -25,8 +28,47 @@ pub const LONG_CASES: std::ops::RangeInclusive<u64> = 1..=heavy::VARIANTS as u64
 pub const FULL_640: u64 = 1;
 pub const TOO_LONG_640: u64 = 7;
 
-/// Case `number` of the run: K1 to K15 first, long tables next, then directed and plain cases in turn.
+/// The cases of the first round that get a category of 512 or 513 rows.
+pub const FULL_CASES: std::ops::Range<u64> =
+    heavy::VARIANTS as u64 + 1..heavy::VARIANTS as u64 + 1 + full::VARIANTS as u64;
+
+/// Case `number` of the run: K1 to K15 first, long tables next, then directed and plain cases in turn, the first of
+/// them with a full category besides; their rows as they were made, or in the order of their keys.
 pub fn case(seed: u64, number: u64) -> Case {
+    let mut case = made(seed, number);
+    match number % ROUND {
+        0 => {}
+        place if FULL_CASES.contains(&place) => {
+            full::add(&mut case, (place - FULL_CASES.start) as usize, &mut ordering(seed, number));
+        }
+        place if LONG_CASES.contains(&place) => order::order(&mut case, &mut ordering(seed, number)),
+        _ => put_in_order(&mut case, &mut ordering(seed, number)),
+    }
+    case
+}
+
+/// As `case`, without long tables and full categories.
+pub fn light_case(seed: u64, number: u64) -> Case {
+    let mut case = light_made(seed, number);
+    put_in_order(&mut case, &mut ordering(seed, number));
+    case
+}
+
+/// A twelfth of the cases get more keys to look for.
+fn put_in_order(case: &mut Case, r: &mut Random) {
+    if r.below(12) == 0 {
+        chains::add(case, r);
+    }
+    order::order(case, r);
+}
+
+/// Another stream than the one that makes the case, so that what is made stays the same.
+fn ordering(seed: u64, number: u64) -> Random {
+    Random::of_case(seed ^ 0x6b65_7973, number)
+}
+
+/// Case `number` as it was made: what is stored rests on it.
+pub fn made(seed: u64, number: u64) -> Case {
     let r = &mut Random::of_case(seed, number);
     let place = number % ROUND;
     if place == 0 {
@@ -38,8 +80,8 @@ pub fn case(seed: u64, number: u64) -> Case {
     light(r, number)
 }
 
-/// As `case`, without long tables.
-pub fn light_case(seed: u64, number: u64) -> Case {
+/// As `made`, without long tables.
+pub fn light_made(seed: u64, number: u64) -> Case {
     light(&mut Random::of_case(seed, number), number)
 }
 
@@ -56,6 +98,7 @@ fn light(r: &mut Random, number: u64) -> Case {
 mod tests {
     use super::*;
     use crate::check::{check, Entry, Lent};
+    use crate::run::answers_of;
     use crate::stream::{parts, Header, HEADER};
     use crate::switch::Right;
 
@@ -69,6 +112,42 @@ mod tests {
             let lent = Lent::new(Right, parts(&header, &bytes[HEADER..]).0);
             let answer = check(Right, &lent, &Entry::new(case.entries[0]));
             assert_eq!(answer.numbers[0], 100, "model {number}: {:?}", answer.test);
+        }
+    }
+
+    fn numbers(case: &Case) -> Vec<[u32; 8]> {
+        answers_of(Right, case).iter().map(|answer| answer.numbers).collect()
+    }
+
+    /// What is done to a case as it was made leaves its lines as they are.
+    #[test]
+    fn the_order_of_rows_changes_no_answer() {
+        let mut ordered = 0;
+        for number in 0..3_000 {
+            let (made, case) = (made(8, number), case(8, number));
+            let lines = numbers(&made);
+            assert_eq!(numbers(&case)[..lines.len()], lines, "case {number}");
+            ordered += (made.bytes() != case.bytes()) as u64;
+        }
+        // Half of them, and those that get more keys.
+        assert!((1_400..1_800).contains(&ordered), "{ordered}");
+    }
+
+    /// By steps 7 and 11 of document 01.
+    #[test]
+    fn a_full_category_is_refused_or_compared() {
+        let key = full::KEY as u32;
+        let expected =
+            [[123, 0, 643, key, key, 0, 0, 0], [100, 0, 0, key, key, key, 0, 0], [120, 0, 643, key, key, 0, 0, 0]];
+        for seed in 0..20 {
+            for number in FULL_CASES {
+                let answers = numbers(&case(seed, number));
+                assert_eq!(
+                    answers.last(),
+                    Some(&expected[(number - FULL_CASES.start) as usize % 3]),
+                    "{seed} {number}"
+                );
+            }
         }
     }
 

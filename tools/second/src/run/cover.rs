@@ -1,16 +1,19 @@
 //! How often each test gave its answer, and each step went each of its ways.
 
 use super::answers_of;
-use crate::check::entry::{HIGHEST, ICPCTO, LOWEST, MAY_BE_BLANK, NAMES, RANGES};
+use crate::check::entry::{BASE_UNIT, CODE, ENTERED_UNIT, GPK, HIGHEST, ICPCTO, LOWEST, MAY_BE_BLANK, NAMES, RANGES};
 use crate::check::fields::LOW_BOUNDS;
 use crate::check::test::{Amount, Shape};
 use crate::check::{Answer, Care, Level, Reason, Route, Side, Table, Test, Time, Unit};
 use crate::generate::case::{Case, Numbers};
+use crate::generate::order::{keys, Order};
 use crate::switch::Right;
 use std::collections::BTreeMap;
 
-/// Place of the category in the answer.
+/// Places of the basis, the category and the rule in the answer.
+const BASIS: usize = 3;
 const CATEGORY: usize = 4;
+const RULE: usize = 5;
 
 /// A limit of 649.
 #[derive(Clone, Copy, PartialEq, Eq, PartialOrd, Ord, Debug)]
@@ -31,6 +34,23 @@ pub enum Near {
     Above,
 }
 
+/// Where a key stands that a step looks for; one that the first row has is first.
+#[derive(Clone, Copy, PartialEq, Eq, PartialOrd, Ord, Debug)]
+pub enum Stands {
+    First,
+    Between,
+    Last,
+    Absent,
+}
+
+/// How often a table's keys fall from row to row.
+#[derive(Clone, Copy, PartialEq, Eq, PartialOrd, Ord, Debug)]
+pub enum Falls {
+    Never,
+    Once,
+    Often,
+}
+
 /// What is counted.
 #[derive(Clone, Copy, PartialEq, Eq, PartialOrd, Ord, Debug)]
 pub enum Seen {
@@ -46,6 +66,10 @@ pub enum Seen {
     /// high, low, GPRISC
     Verdict(u32, u32, u32),
     Dose(Limit, Near),
+    /// A table that was searched, of three rows or more, in which a key has several.
+    Order(Table, Order),
+    /// A key looked for in a table of three rows or more.
+    Key(Table, Falls, Stands),
 }
 
 #[derive(Default)]
@@ -58,15 +82,17 @@ pub struct Coverage {
 impl Coverage {
     pub fn add(&mut self, case: &Case) {
         self.cases += 1;
+        let orders = Table::ALL.map(|table| order(case, table));
         for (answer, entry) in answers_of(Right, case).iter().zip(&case.entries) {
             self.entries += 1;
-            for seen in seen(answer, entry) {
+            for seen in seen(answer, entry).into_iter().chain(searches(answer, entry, &orders)) {
                 *self.counts.entry(seen).or_default() += 1;
             }
         }
     }
 
-    /// Whether the case shows something seen fewer than `times` times.
+    /// Whether the case shows something seen fewer than `times` times; the order of its rows is left out, since the
+    /// stored cases were chosen without it.
     pub fn shows_new(&self, case: &Case, times: u64) -> bool {
         let answers = answers_of(Right, case);
         let mut all = answers.iter().zip(&case.entries).flat_map(|(answer, entry)| seen(answer, entry));
@@ -115,6 +141,56 @@ fn seen(answer: &Answer, entry: &Numbers) -> Vec<Seen> {
     all
 }
 
+/// The keys of a table of three rows or more, how they go, and whether one has several rows.
+struct Keys {
+    keys: Vec<u64>,
+    order: Order,
+    several: bool,
+}
+
+fn order(case: &Case, table: Table) -> Option<Keys> {
+    let keys = keys(&case.tables[table as usize]);
+    if keys.len() < 3 {
+        return None;
+    }
+    let mut sorted = keys.clone();
+    sorted.sort();
+    let several = sorted.windows(2).any(|pair| pair[0] == pair[1]);
+    Some(Keys { order: Order::of(&keys), several, keys })
+}
+
+/// The tables that were searched, each with the key that was looked for.
+fn searches(answer: &Answer, entry: &Numbers, orders: &[Option<Keys>; 6]) -> Vec<Seen> {
+    let numbers = &answer.numbers;
+    let converts = entry[ENTERED_UNIT] != entry[BASE_UNIT];
+    let searched = [
+        (Table::T640, answer.test > Test::NoGpk, entry[GPK]),
+        (Table::T641, answer.test > Test::SexDiffers, entry[GPK]),
+        (Table::T642, numbers[BASIS] > 0, numbers[BASIS]),
+        (Table::T643, numbers[CATEGORY] > 0, numbers[CATEGORY]),
+        (Table::T649, numbers[RULE] > 0, numbers[RULE]),
+        (Table::T730, answer.test >= Test::BaseUnitAbsent && converts, entry[CODE]),
+    ];
+    let mut all = vec![];
+    for (table, _, key) in searched.into_iter().filter(|(_, searched, _)| *searched) {
+        let Some(of) = &orders[table as usize] else { continue };
+        let stands = match of.keys.iter().position(|other| *other == key as u64) {
+            None => Stands::Absent,
+            Some(0) => Stands::First,
+            _ if of.keys.last() == Some(&(key as u64)) => Stands::Last,
+            _ => Stands::Between,
+        };
+        let falls = match of.order {
+            Order::Rises => Falls::Never,
+            Order::FallsOften => Falls::Often,
+            _ => Falls::Once,
+        };
+        all.push(Seen::Key(table, falls, stands));
+        all.extend(of.several.then_some(Seen::Order(table, of.order)));
+    }
+    all
+}
+
 fn near(dose: u128, bound: u128, one: u128) -> Near {
     match () {
         _ if bound == 0 => Near::NoLimit,
@@ -148,6 +224,13 @@ pub fn required() -> Vec<Seen> {
     use Near::*;
     for limit in [Limit::Minimum, Limit::Maximum, Limit::Absolute] {
         all.extend([NoLimit, Below, FractionBelow, Equal, FractionAbove, Above].map(|near| Seen::Dose(limit, near)));
+    }
+    for table in Table::ALL {
+        all.extend(Order::ALL.map(|order| Seen::Order(table, order)));
+        for falls in [Falls::Never, Falls::Once, Falls::Often] {
+            use Stands::*;
+            all.extend([First, Between, Last, Absent].map(|stands| Seen::Key(table, falls, stands)));
+        }
     }
     all
 }

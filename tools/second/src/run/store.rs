@@ -4,9 +4,12 @@ use super::compare::unit_files;
 use super::cover::Coverage;
 use super::faults::Faults;
 use super::{answers_of_bytes, cover_calls, edges};
+use crate::check::Table;
 use crate::generate::calls::{call_case, stream as stream_of, CallCase};
 use crate::generate::case::Case;
-use crate::generate::{self, proof_table, FULL_640, TOO_LONG_640};
+use crate::generate::order::Order;
+use crate::generate::{self, chains, full, proof_table, FULL_640, TOO_LONG_640};
+use crate::random::Random;
 use crate::record::calls::{calls as call_lines, Call, BYTES_MOST};
 use crate::record::list::unit_list;
 use crate::stream::{BROKEN, HEADER};
@@ -14,8 +17,10 @@ use crate::switch::Right;
 use std::{fs, io, path::Path};
 
 pub const SEED: u64 = 730;
-/// So many cases are stored.
+/// So many cases are stored before those that look for keys.
 pub const CASES: usize = 3_500;
+/// Rows of the longest table of those whose keys are looked for one by one.
+const LENGTHS: u64 = 6;
 /// Cases looked through for those that show something new.
 const LOOKED_THROUGH: u64 = 12_000;
 /// A case shows something new while what it shows was seen fewer times than this.
@@ -25,13 +30,20 @@ const FILLING_BYTES: usize = 1_000;
 const UNIT_FILES: u64 = 400;
 
 /// K1 to K15 first; a table that is full and one that is too long; cases that show or tell something new; others.
+/// Behind them the cases that look for keys, added later: those before stay as they were.
 pub fn cases() -> Vec<Case> {
-    let mut cases = vec![proof_table::k_case(), generate::case(SEED, FULL_640), generate::case(SEED, TOO_LONG_640)];
+    let mut cases = first_cases();
+    cases.extend(key_cases());
+    cases
+}
+
+fn first_cases() -> Vec<Case> {
+    let mut cases = vec![proof_table::k_case(), generate::made(SEED, FULL_640), generate::made(SEED, TOO_LONG_640)];
     let mut coverage = Coverage::default();
     let mut faults = Faults::new();
     let mut others = vec![];
     for number in 0..LOOKED_THROUGH {
-        let case = generate::light_case(SEED, number);
+        let case = generate::light_made(SEED, number);
         if coverage.shows_new(&case, TIMES) || faults.tell_check(&case, number) {
             coverage.add(&case);
             cases.push(case);
@@ -41,6 +53,21 @@ pub fn cases() -> Vec<Case> {
     }
     let room = CASES.saturating_sub(cases.len());
     cases.extend(others.into_iter().take(room));
+    cases
+}
+
+/// Tables that rise and tables that fall, keys at each place of them, and full categories.
+pub fn key_cases() -> Vec<Case> {
+    // Begins as the half header does that the stream ended with, so that all of the older stream is the front of this
+    // one.
+    let mut cases = vec![chains::empty()];
+    cases.extend((1..=LENGTHS).map(chains::length));
+    for table in Table::ALL {
+        cases.extend((0..3).map(|several| chains::search(table, Order::Rises, several)));
+        cases.extend(Order::ALL[1..].iter().map(|order| chains::search(table, *order, 1)));
+    }
+    let r = &mut Random::of_case(SEED, 0);
+    cases.extend((0..full::VARIANTS).map(|variant| full::full(variant, r)));
     cases
 }
 
