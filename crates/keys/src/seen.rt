@@ -1,13 +1,10 @@
-// A lent table as it is seen: where its rows stand, and whether their keys rise. It is computed, never claimed.
-use guideline::view::View;
-
+// What was seen of a lent table by its tests: do its keys rise? It is computed, never claimed.
 pub struct Seen {
-    pub view: View,
     pub rising: bool,
 }
 
-// The six tables.
-pub struct Views {
+// Of the six tables.
+pub struct AllSeen {
     pub t640: Seen,
     pub t641: Seen,
     pub t642: Seen,

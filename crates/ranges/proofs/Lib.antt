@@ -1,2 +1,3 @@
+pub mod RowByRow
+pub mod Chain
 pub mod Soundly
-pub mod Tried

@@ -1,10 +1,11 @@
-// 122 of a table, by its name.
+// 122 of a table, by its name, in one pass that also sees whether the keys rise.
 ghost use mathlib.Core.Path.{_≡_};
 ghost use Prim.Native.Nat.{_<_};
+ghost use lib.ListN.{length};
 ghost use Rattle.guideline.specs.Rows.{width, sound-row};
-ghost use Rattle.guideline.specs.Bytes.{rows-in};
-ghost use Rattle.guideline.specs.Steps.{all-rows};
-ghost use Rattle.cells.specs.Lents.{rows, row-at};
+ghost use Rattle.cells.specs.Views.{Fits};
+ghost use Rattle.cells.specs.Lents.{row-at};
+ghost use Rattle.ranges.specs.Soundly.{tested};
 use crate::t640;
 use crate::t641;
 use crate::t642;
@@ -12,31 +13,45 @@ use crate::t643;
 use crate::t649;
 use crate::t730;
 use guideline::rows::TableName;
+use guideline::view::View;
 
-fn row_in_range(t: &[u8], n: TableName, i: usize) -> bool
-    requires { ⌜ i < rows-in (width n) (now t) ⌝ }
-    ensures { λ r. ⌜ r ≡ sound-row n (row-at n (now (t .entry)) i) ⌝ }
+// What the pass over a table finds: a row out of range, or all in range, and whether the keys rise.
+pub enum Finding {
+    OutOfRange,
+    InRange(bool),
+}
+
+fn row_in_range(t: &[u8], v: View, n: TableName, i: usize) -> bool
+    requires { ⌜ Fits (width n) v (length (now t)) × (i < v .rows) ⌝ }
+    ensures { λ r. ⌜ r ≡ sound-row n (row-at n (now (t .entry)) v i) ⌝ }
 {
     match n {
-        TableName::T640 => t640::in_range(cells::t640::row(t, i)),
-        TableName::T641 => t641::in_range(cells::t641::row(t, i)),
-        TableName::T642 => t642::in_range(cells::t642::row(t, i)),
-        TableName::T643 => t643::in_range(cells::t643::row(t, i)),
-        TableName::T649 => t649::in_range(cells::t649::row(t, i)),
-        TableName::T730 => t730::in_range(cells::t730::row(t, i)),
+        TableName::T640 => t640::in_range(cells::t640::row(t, v, i)),
+        TableName::T641 => t641::in_range(cells::t641::row(t, v, i)),
+        TableName::T642 => t642::in_range(cells::t642::row(t, v, i)),
+        TableName::T643 => t643::in_range(cells::t643::row(t, v, i)),
+        TableName::T649 => t649::in_range(cells::t649::row(t, v, i)),
+        TableName::T730 => t730::in_range(cells::t730::row(t, v, i)),
     }
 }
 
-pub fn all_in_range(t: &[u8], n: TableName) -> bool
-    ensures { λ r. ⌜ r ≡ all-rows (sound-row n) (rows n (now (t .entry))) ⌝ }
+pub fn tested(t: &[u8], v: View, n: TableName) -> Finding
+    requires { ⌜ Fits (width n) v (length (now t)) ⌝ }
+    ensures { λ r. ⌜ r ≡ tested n (now (t .entry)) v ⌝ }
 {
-    let rows = cells::rows(t, n);
+    let k = cells::key_at(n);
+    let rows = v.rows;
+    let mut rising = true;
+    let mut last: u32 = 0;
     let mut i: usize = 0;
     while i < rows {
-        if !row_in_range(t, n, i) {
-            return false;
+        if !row_in_range(t, v, n, i) {
+            return Finding::OutOfRange;
         }
+        let key = cells::cell(t, v, i, k);
+        rising = guideline::both(rising, last <= key);
+        last = key;
         i += 1;
     }
-    true
+    Finding::InRange(rising)
 }

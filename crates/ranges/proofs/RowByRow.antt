@@ -1,0 +1,57 @@
+-- A table whose rows are tested one by one: one that is out of range is found, or all are tested. Assumes nothing.
+use Prim.Native.Nat.{ℕ, _<_, _≤_}
+use mathlib.Core.Path.{_≡_, refl, sym, _∙_, ap, subst}
+use mathlib.Core.Bool.{Bool, true, false, not}
+use mathlib.Core.List.{List}
+use native.Mathlib.Omega.{arith}
+use borrow.Author.Tests.{ne-eqb}
+use lib.Dec.{eqb}
+use lib.ListN.{length}
+use Rattle.guideline.specs.declared.rows.TableName.{TableName}
+use Rattle.guideline.specs.declared.view.View.{View}
+use Rattle.guideline.specs.Rows.{Row, width, sound-row}
+use Rattle.guideline.specs.Steps.{all-rows}
+use Rattle.cells.specs.declared.Tally.{Tally}
+use Rattle.cells.specs.Tally.{tallied, Tallying}
+use Rattle.cells.specs.Views.{Fits}
+use Rattle.cells.specs.Lents.{shown, row-at, key-at}
+use Rattle.cells.proofs.Tallied.{counted-once, tallying-all}
+use Rattle.cells.proofs.Lents.{rows-none}
+use Rattle.keys.specs.Keys.{key-of}
+use Rattle.keys.specs.Rising.{rises}
+use Rattle.ranges.specs.declared.rows.Finding.the-variants.{OutOfRange, InRange}
+use Rattle.ranges.specs.Soundly.{tested}
+
+module _ (n : TableName) (l : List ℕ) (v : View) where
+  abbrev pub unsound-at : ℕ → Bool
+  unsound-at i = not (sound-row n (row-at n l v i))
+
+  none-unsound : all-rows (sound-row n) (shown n l v) ≡ eqb (tallied unsound-at (v .rows) .count) 0
+  none-unsound = rows-none n l v (λ r. not (sound-row n r)) refl
+
+  pub found-unsound : (i : ℕ) → i < v .rows → sound-row n (row-at n l v i) ≡ false → OutOfRange ≡ tested n l v
+  unfolding tested
+  found-unsound i below e = rw all
+    where
+      all : all-rows (sound-row n) (shown n l v) ≡ false
+      all =
+          none-unsound
+          ∙ ne-eqb (tallied unsound-at (v .rows) .count) 0 (λ z. let k : 0 < tallied unsound-at (v .rows) .count = counted-once unsound-at i (v .rows) below (ap not e) in let y : tallied unsound-at (v .rows) .count ≡ 0 = z in omega arith)
+
+  pub all-tested : {i k : ℕ} {b : Bool} → k ≡ key-at n → Tallying unsound-at (v .rows) i 0 0 → b ≡ rises (key-of l v k) i → v .rows ≤ i → InRange b ≡ tested n l v
+  unfolding tested
+  all-tested {i} {k} {b} at-key none rise all =
+      let end : i ≡ v .rows = omega arith in
+      rw (in-range, ← end, ← at-key, rise)
+    where
+      in-range : all-rows (sound-row n) (shown n l v) ≡ true
+      in-range = none-unsound ∙ ap (λ (t : Tally). eqb (t .count) 0) (sym (tallying-all unsound-at none all))
+
+-- the row of a table, where its name is known
+module _ {n m : TableName} (same : n ≡ m) (l : List ℕ) (v : View) (i : ℕ) where
+  pub known-inside : Fits (width n) v (length l) × (i < v .rows) → Fits (width m) v (length l) × (i < v .rows)
+  known-inside h = (subst (λ x. Fits (width x) v (length l)) same (h .0), h .1)
+
+  pub known-test : {row : Row m} {b : Bool} → row ≡ row-at m l v i → b ≡ sound-row m row → b ≡ sound-row n (row-at n l v i)
+  known-test {row} {b} read test =
+      subst (λ x. b ≡ sound-row x (row-at x l v i)) (sym same) (test ∙ ap (sound-row m) read)
