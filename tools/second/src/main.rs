@@ -3,7 +3,9 @@
 use second::fault::Fault;
 use second::generate;
 use second::record::{calls::calls, list::unit_list};
-use second::run::{compare, cover, cover_calls, demand3, edges, faults, store, STANDARD_CASES, STANDARD_SEED};
+use second::run::{
+    compare, cover, cover_calls, demand3, edges, faults, searches, store, STANDARD_CASES, STANDARD_SEED,
+};
 use second::stream::answers;
 use second::switch::{Right, Wrong};
 use std::io::{self, BufReader, BufWriter, Read, Write};
@@ -171,7 +173,9 @@ fn covered(given: &Arguments) -> Result<(), String> {
 fn told(given: &Arguments) -> Result<(), String> {
     let faults = faults::run(given.seed, given.cases);
     faults.print();
-    match faults.untold().len() {
+    let searches = searches::run(given.seed, given.cases);
+    searches.print();
+    match faults.untold().len() + searches.untold().len() {
         0 => Ok(()),
         count => Err(format!("{count} wrong versions are not told")),
     }

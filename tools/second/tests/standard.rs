@@ -9,6 +9,7 @@ use second::generate::{self, case::Case, full, proof_table::k_case};
 use second::record::{calls::calls, list::unit_list};
 use second::run::cover::{Coverage, Seen};
 use second::run::faults::{self, Faults};
+use second::run::searches::{self, Searches};
 use second::run::{compare, cover_calls, demand3, edges, store, STANDARD_CASES, STANDARD_SEED};
 use second::switch::Right;
 use std::sync::LazyLock;
@@ -154,6 +155,15 @@ fn full_categories_are_stored() {
         }
     }
     assert_eq!(seen, expected);
+}
+
+/// By few fresh cases, and by the stored ones that were added for it.
+#[test]
+fn every_wrong_search_is_told() {
+    assert_eq!(searches::run(STANDARD_SEED, STANDARD_CASES / 5).untold(), []);
+    let mut stored = Searches::new();
+    store::key_cases().iter().for_each(|case| stored.tell(case, 0));
+    assert_eq!(stored.untold(), []);
 }
 
 /// More cases than one start of the program gets.

@@ -41,7 +41,7 @@ pub fn case(seed: u64, number: u64) -> Case {
         place if FULL_CASES.contains(&place) => {
             full::add(&mut case, (place - FULL_CASES.start) as usize, &mut ordering(seed, number));
         }
-        place if LONG_CASES.contains(&place) => order::order(&mut case, &mut ordering(seed, number)),
+        place if LONG_CASES.contains(&place) => long_in_order(&mut case, &mut ordering(seed, number)),
         _ => put_in_order(&mut case, &mut ordering(seed, number)),
     }
     case
@@ -54,12 +54,23 @@ pub fn light_case(seed: u64, number: u64) -> Case {
     case
 }
 
-/// A twelfth of the cases get more keys to look for.
+/// A third of the cases by key, a sixth nearly. A twelfth get more keys to look for, and of these more are nearly so:
+/// whatever row is moved, some entry needs it.
 fn put_in_order(case: &mut Case, r: &mut Random) {
+    use order::Ordered::{AsMade, ByKey, Nearly};
+    let mut ways = [ByKey, ByKey, Nearly, AsMade, AsMade, AsMade];
     if r.below(12) == 0 {
         chains::add(case, r);
+        ways = [ByKey, Nearly, Nearly, Nearly, Nearly, AsMade];
     }
-    order::order(case, r);
+    let ordered = r.pick(&ways);
+    order::order(case, r, ordered);
+}
+
+/// Half of the long tables by key.
+fn long_in_order(case: &mut Case, r: &mut Random) {
+    let ordered = r.pick(&[order::Ordered::AsMade, order::Ordered::ByKey]);
+    order::order(case, r, ordered);
 }
 
 /// Another stream than the one that makes the case, so that what is made stays the same.

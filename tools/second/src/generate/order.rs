@@ -6,8 +6,16 @@ use crate::check::Table;
 use crate::random::Random;
 
 /// Document 01's steps look for GPKODE, GPDBAS, GPDCAT, GPDDNR and CODE.
+pub fn key_place(table: Table) -> usize {
+    if table == Table::T730 {
+        1
+    } else {
+        0
+    }
+}
+
 pub fn keys(rows: &Rows) -> Vec<u64> {
-    let place = if rows.table == Table::T730 { 1 } else { 0 };
+    let place = key_place(rows.table);
     rows.cells.chunks_exact(rows.width()).map(|row| row[place]).collect()
 }
 
@@ -37,10 +45,17 @@ impl Order {
     }
 }
 
-/// A third of the cases by key in all tables, a sixth so but for one row of one table, the others as they are.
-pub fn order(case: &mut Case, r: &mut Random) {
-    let kind = r.below(6);
-    if kind > 2 {
+/// What becomes of a case's order.
+#[derive(Clone, Copy, PartialEq)]
+pub enum Ordered {
+    AsMade,
+    ByKey,
+    /// But for one row of one table.
+    Nearly,
+}
+
+pub fn order(case: &mut Case, r: &mut Random, ordered: Ordered) {
+    if ordered == Ordered::AsMade {
         return;
     }
     if r.percent(50) {
@@ -48,7 +63,7 @@ pub fn order(case: &mut Case, r: &mut Random) {
         case.shuffle(r);
     }
     case.tables.iter_mut().for_each(sort);
-    if kind == 2 {
+    if ordered == Ordered::Nearly {
         let with_two = |rows: &&mut Rows| keys(rows).first() != keys(rows).last();
         let mut tables: Vec<&mut Rows> = case.tables.iter_mut().filter(with_two).collect();
         if !tables.is_empty() {
@@ -87,7 +102,7 @@ fn fall(rows: &mut Rows, r: &mut Random) {
     // The least key's rows stand before `low`, the greatest key's from `high` on.
     let low = keys.partition_point(|key| *key == keys[0]);
     let high = keys.partition_point(|key| *key < keys[last]);
-    let (from, to) = match place(0, 3) {
+    let (from, to) = match place(0, 2) {
         0 => (place(low, last), 0),
         1 => (place(0, high - 1), last),
         _ => {

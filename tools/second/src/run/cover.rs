@@ -160,10 +160,10 @@ fn order(case: &Case, table: Table) -> Option<Keys> {
 }
 
 /// The tables that were searched, each with the key that was looked for.
-fn searches(answer: &Answer, entry: &Numbers, orders: &[Option<Keys>; 6]) -> Vec<Seen> {
+pub fn searched(answer: &Answer, entry: &Numbers) -> Vec<(Table, u64)> {
     let numbers = &answer.numbers;
     let converts = entry[ENTERED_UNIT] != entry[BASE_UNIT];
-    let searched = [
+    let all = [
         (Table::T640, answer.test > Test::NoGpk, entry[GPK]),
         (Table::T641, answer.test > Test::SexDiffers, entry[GPK]),
         (Table::T642, numbers[BASIS] > 0, numbers[BASIS]),
@@ -171,13 +171,17 @@ fn searches(answer: &Answer, entry: &Numbers, orders: &[Option<Keys>; 6]) -> Vec
         (Table::T649, numbers[RULE] > 0, numbers[RULE]),
         (Table::T730, answer.test >= Test::BaseUnitAbsent && converts, entry[CODE]),
     ];
+    all.into_iter().filter(|(_, searched, _)| *searched).map(|(table, _, key)| (table, key as u64)).collect()
+}
+
+fn searches(answer: &Answer, entry: &Numbers, orders: &[Option<Keys>; 6]) -> Vec<Seen> {
     let mut all = vec![];
-    for (table, _, key) in searched.into_iter().filter(|(_, searched, _)| *searched) {
+    for (table, key) in searched(answer, entry) {
         let Some(of) = &orders[table as usize] else { continue };
-        let stands = match of.keys.iter().position(|other| *other == key as u64) {
+        let stands = match of.keys.iter().position(|other| *other == key) {
             None => Stands::Absent,
             Some(0) => Stands::First,
-            _ if of.keys.last() == Some(&(key as u64)) => Stands::Last,
+            _ if of.keys.last() == Some(&key) => Stands::Last,
             _ => Stands::Between,
         };
         let falls = match of.order {

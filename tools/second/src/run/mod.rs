@@ -7,6 +7,7 @@ pub mod demand3;
 pub mod edges;
 pub mod faults;
 pub mod program;
+pub mod searches;
 pub mod show;
 pub mod store;
 pub mod versions;
