@@ -22,7 +22,7 @@ const HELP: &str = "second: the dose check and file 730, written from document 0
   second unit-files RUN            the run's unit files as one input
   second call-streams RUN          the run's calls of file 730 as one stream
   second cover RUN                 how often each test gave its answer; fails if one that can occur did not
-  second faults RUN                the case that first tells each wrong version; fails if one is not told
+  second faults RUN                the case that first tells each wrong version and search; fails if one is not told
   second compare [PROGRAM] RUN [--units PROGRAM] [--calls PROGRAM]
                                    runs each PROGRAM on the run's cases, unit files or calls, and compares every line
   second edges PROGRAM             whole and damaged streams of cases
