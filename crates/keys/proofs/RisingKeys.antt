@@ -64,25 +64,25 @@ module _ {f : ℕ → ℕ} {n low a b : ℕ} (rise : Rising f n) (k : Between f 
       (above, omega arith, k .2, λ i more less. le-trans h (rise m i more less))
 
 -- the rows that are at least the key, and not at least one more, are those of the key
-module _ {f : ℕ → ℕ} {n key a b : ℕ} (p : From f n key a) (q : From f n (key + 1) b) where
+module _ {f : ℕ → ℕ} {n key more a b : ℕ} (one-more : more ≡ key + 1) (p : From f n key a) (q : From f n more b) where
   pub from-order : a ≤ b
   from-order = go (ltb b a) (ltb-true b a) (ltb-false b a)
     where
       go : (t : Bool) → (t ≡ true → b < a) → (t ≡ false → a ≤ b) → a ≤ b
       go true is less =
           let x : f b < key = p .1 b (is refl) in
-          let y : key + 1 ≤ f b = q .2 b (omega arith) (omega (arith, is refl, p .0)) in
-          absurd (let z : ⊥ = omega arith in z)
+          let y : more ≤ f b = q .2 b (omega arith) (omega (arith, is refl, p .0)) in
+          absurd (let z : ⊥ = omega (arith, one-more) in z)
       go false is less = less refl
 
   pub from-key : (i : ℕ) → a ≤ i → i < b → f i ≡ key
   from-key i above below =
       let x : key ≤ f i = p .2 i above (omega (arith, q .0)) in
-      let y : f i < key + 1 = q .1 i below in
-      omega arith
+      let y : f i < more = q .1 i below in
+      omega (arith, one-more)
 
   pub from-before : (i : ℕ) → 0 ≤ i → i < a → f i ≡ key → ⊥
   from-before i above below same = let x : f i < key = p .1 i below in omega arith
 
   pub from-after : (i : ℕ) → b ≤ i → i < n → f i ≡ key → ⊥
-  from-after i above below same = let x : key + 1 ≤ f i = q .2 i above below in omega arith
+  from-after i above below same = let x : more ≤ f i = q .2 i above below in omega (arith, one-more)

@@ -14,7 +14,7 @@ fn from(t: &[u8], v: View, k: usize, low: u64) -> usize
 {
     let mut a: usize = 0;
     let mut b = v.rows;
-    while a < b {
+    while 0 < b - a {
         let m = a + (b - a) / 2;
         if (cells::cell(t, v, m, k) as u64) < low {
             a = m + 1;

@@ -50,4 +50,4 @@ returns c =
     (omega arith, k .2, λ i more less. k .3 i (omega arith) less)
 
 pub from-spec : {M : Type 1} → statement M
-from-spec = tie.close (tie.spec Inv-loop μ-loop loop-holds (λ c. search needs) add-m cell-requires (λ c. search needs) add-a (λ c. search needs) loop-again (λ c. search needs) loop-again-2 returns)
+from-spec = tie.close (tie.spec Inv-loop μ-loop loop-holds (λ c. search needs) (λ c. search needs) add-m cell-requires (λ c. search needs) add-a (λ c. search needs) loop-again (λ c. search needs) loop-again-2 returns)

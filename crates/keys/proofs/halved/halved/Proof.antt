@@ -11,7 +11,7 @@ narrow-requires : tie.Need-narrow-requires
 narrow-requires c κs =
     let s = c .before .before .before in
     let h = narrowed-first (c .before .from .result) (c .before .from .ensures .0) (s .pre .0) in
-    (from-order (c .before .from .ensures) (c .from2 .ensures), omega arith)
+    (from-order (omega arith) (c .before .from .ensures) (c .from2 .ensures), omega arith)
 
 returns : tie.Need-returns
 returns c =
@@ -20,12 +20,12 @@ returns c =
     record {
       from = a .result;
       to = b .result;
-      order = from-order (a .ensures) (b .ensures);
+      order = from-order (omega arith) (a .ensures) (b .ensures);
       most = b .ensures .0;
-      before = from-before (a .ensures) (b .ensures);
-      after = from-after (a .ensures) (b .ensures);
-      first = λ some. from-key (a .ensures) (b .ensures) (a .result) (omega arith) some;
-      last = λ some. from-key (a .ensures) (b .ensures) (b .result - 1) (omega arith) (omega arith);
+      before = from-before (omega arith) (a .ensures) (b .ensures);
+      after = from-after (omega arith) (a .ensures) (b .ensures);
+      first = λ some. from-key (omega arith) (a .ensures) (b .ensures) (a .result) (omega arith) some;
+      last = λ some. from-key (omega arith) (a .ensures) (b .ensures) (b .result - 1) (omega arith) (omega arith);
       cut = c .narrow .ensures;
     }
 

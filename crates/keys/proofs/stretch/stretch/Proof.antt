@@ -9,7 +9,8 @@ narrow-requires : tie.Need-narrow-requires
 narrow-requires c κs =
     let s = c .before .before .before in
     let h = narrowed-first (c .before .next .result) (c .before .next .ensures .1) (s .pre) in
-    (c .end .ensures .0, omega arith)
+    let k = narrowed-first (c .end .result) (c .end .ensures .1) (s .pre) in
+    (omega (arith, c .end .ensures .0), omega arith)
 
 returns : tie.Need-returns
 returns c =
