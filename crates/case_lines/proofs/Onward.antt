@@ -55,11 +55,11 @@ rest-of-case b m h =
     ap (λ (k : ℕ). lines-from b 0 m ++ lines-from b k (entry-count b - m)) (sym e) ∙ sym (lines-join b 0 m (entry-count b - m)) ∙ ap (lines-from b 0) f
 
 -- what was tested of the tables of a case fits it
-pub test-fits : (b : List ℕ) → Fitting (test-of b) (spelled (tables-of b))
+pub test-fits : (b : List ℕ) → Fitting (test-of b) (tables-of b)
 unfolding test-of
 test-fits b = go (leb (entry-count b) 1)
   where
-    go : (t : Bool) → Fitting (cond t ByCheck (Once (soundness (spelled (tables-of b))))) (spelled (tables-of b))
+    go : (t : Bool) → Fitting (cond t ByCheck (Once (soundness (tables-of b)))) (tables-of b)
     go true = tt
     go false = refl
 

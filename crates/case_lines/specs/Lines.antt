@@ -6,8 +6,7 @@ use mathlib.Core.List.{List, [], _++_}
 use lib.Dec.{leb, ltb}
 use lib.ListN.{length}
 use Rattle.decimals.specs.Put.{Put}
-use Rattle.guideline.specs.Bytes.{spelled}
-use Rattle.guideline.specs.Rows.{Tables}
+use Rattle.guideline.specs.Bytes.{Lents, spelled}
 use Rattle.guideline.specs.Check.{numbers-of, check}
 use Rattle.ranges.specs.Soundly.{soundness}
 use Rattle.stream.specs.Cases.{tables-of, entry-of, entry-count, case-length}
@@ -29,17 +28,17 @@ unfoldable pub lines-of : List ℕ → List ℕ
 lines-of b = lines-from b 0 (entry-count b)
 
 -- what was tested of the tables
-abbrev pub Fitting : Test → Tables → Type 0
+abbrev pub Fitting : Test → Lents → Type 0
 Fitting ByCheck t = Unit {0}
 Fitting (Once s) t = s ≡ soundness t
 
 unfoldable pub test-of : List ℕ → Test
-test-of b = cond (leb (entry-count b) 1) ByCheck (Once (soundness (spelled (tables-of b))))
+test-of b = cond (leb (entry-count b) 1) ByCheck (Once (soundness (tables-of b)))
 
 -- a whole case, what was tested of its tables, the entry to go on with, and a place in a buffer
 pub record Ready (b : List ℕ) (test : Test) (from room at : ℕ) : Type 0 where
   pub whole : case-length b ≤ length b
-  pub tested : Fitting test (spelled (tables-of b))
+  pub tested : Fitting test (tables-of b)
   pub entry : from ≤ entry-count b
   pub place : at ≤ room
 

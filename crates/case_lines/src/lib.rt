@@ -52,7 +52,7 @@ fn answer(
     t730: &[u8],
     e: Entry,
 ) -> Answer
-    requires { ⌜ Fitting test (spelled (lents (now t640) (now t641) (now t642) (now t643) (now t649) (now t730))) ⌝ }
+    requires { ⌜ Fitting test (lents (now t640) (now t641) (now t642) (now t643) (now t649) (now t730)) ⌝ }
     ensures { λ r. ⌜ r ≡ check (spelled (lents (now (t640 .entry)) (now (t641 .entry)) (now (t642 .entry)) (now (t643 .entry)) (now (t649 .entry)) (now (t730 .entry)))) e ⌝ }
 {
     match test {

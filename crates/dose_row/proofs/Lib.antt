@@ -1,5 +1,6 @@
-pub mod Places
-pub mod Sets
+pub mod Passed
+pub mod Joined
+pub mod Kept
 pub mod Narrowed
 pub mod Links
 pub mod Chosen

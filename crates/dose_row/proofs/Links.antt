@@ -2,7 +2,6 @@
 use Prim.Native.Nat.{ℕ, _≤_, _<_}
 use mathlib.Core.Path.{_≡_, refl, sym, _∙_, ap}
 use mathlib.Core.Bool.{true, false}
-use mathlib.Core.List.{List}
 use borrow.Author.Tests.{le-leb, lt-leb}
 use Rattle.guideline.specs.declared.bounds.Bounds.{Bounds}
 use Rattle.guideline.specs.declared.context.Context.{Context}
@@ -18,14 +17,12 @@ use Rattle.guideline.specs.declared.refusals.Refusal.the-variants.{Asks, Ends}
 use Rattle.guideline.specs.declared.rows.Row643.{Row643}
 use Rattle.guideline.specs.Values.{encloses, matters}
 use Rattle.guideline.specs.Ask.{asks-for, Plan, Chosen, Refused, run, _>>=_, _>>_}
-use Rattle.guideline.specs.Table.{Table, some, number, every}
+use Rattle.guideline.specs.Table.{Table, some, number, among, every}
 use Rattle.guideline.specs.Steps.{most-remembered, when, refuse, demand, few, by-measure, of-rows}
 use Rattle.guideline.proofs.Run.{after, run-bind}
 use Rattle.dose_row.specs.declared.Chosen643.the-variants.{Refused as No643}
 use Rattle.dose_row.specs.Chosen.{chosen643}
-use Rattle.dose_row.specs.declared.remembered.Remembered.{Remembered}
 use Rattle.dose_row.specs.Links.{from-age, from-frequency, from-weight, from-surface}
-use Rattle.dose_row.specs.Remembered.{remembered, Thinned}
 use Rattle.dose_row.proofs.Narrowed.{narrow-none, narrow-some, measure-unneeded, measure-blank, measure-given}
 
 -- the links are the guideline's chain
@@ -49,12 +46,14 @@ module _ (q : Question) (none : Ending) (bounds : Row643 → Bounds) (t : Table 
     pub blank-here : d (asks-for q) ≡ Blank → No643 (Asks q) ≡ chosen643 (run d (by-measure q none bounds t >>= next))
     blank-here b = refused-here d (by-measure q none bounds t) next (measure-blank q none bounds t d needed b)
 
-    module _ {x : ℕ} (given : d (asks-for q) ≡ Given x) {l : List ℕ} {s : Remembered} (k : Thinned l (λ r. encloses (bounds r) x) t s) where
-      pub none-here : s .len ≡ 0 → No643 (Ends none) ≡ chosen643 (run d (by-measure q none bounds t >>= next))
-      none-here e = refused-here d (by-measure q none bounds t) next (measure-given q none bounds t d needed given ∙ narrow-none k d none e)
+    module _ {x : ℕ} (given : d (asks-for q) ≡ Given x) where
+      pub none-here : some (t (λ r. encloses (bounds r) x)) ≡ false → No643 (Ends none) ≡ chosen643 (run d (by-measure q none bounds t >>= next))
+      none-here h =
+          refused-here d (by-measure q none bounds t) next (measure-given q none bounds t d needed given ∙ narrow-none (λ r. encloses (bounds r) x) t d none h)
 
-      pub left-then : (s .len ≡ 0 → ⊥) → chosen643 (run d (next (remembered l s))) ≡ chosen643 (run d (by-measure q none bounds t >>= next))
-      left-then z = chosen-then d (by-measure q none bounds t) next (measure-given q none bounds t d needed given ∙ narrow-some k d none z)
+      pub left-then : {left : Table Row643} → some (t (λ r. encloses (bounds r) x)) ≡ true → left ≡ among (λ r. encloses (bounds r) x) t → chosen643 (run d (next left)) ≡ chosen643 (run d (by-measure q none bounds t >>= next))
+      left-then h e =
+          chosen-then d (by-measure q none bounds t) next (measure-given q none bounds t d needed given ∙ narrow-some (λ r. encloses (bounds r) x) t d none h ∙ ap Chosen (sym e))
 
 -- the first link: step 7
 module _ (d : Datum → Value) (p : Prescription) (c : Context) (t : Table Row643) where

@@ -1,8 +1,7 @@
--- The steps that filter, told by the set that they leave. Assumes nothing.
-use Prim.Native.Nat.{ℕ}
-use mathlib.Core.Path.{_≡_, refl, sym, _∙_, ap, fun-ext}
-use mathlib.Core.Bool.{Bool, true, false, cond, and-true}
-use mathlib.Core.List.{List}
+-- The steps that filter, told by whether there is a row that passes. Assumes nothing.
+use Prim.Native.Nat.{ℕ, zero, suc}
+use mathlib.Core.Path.{_≡_, refl, _∙_, ap}
+use mathlib.Core.Bool.{Bool, true, false, cond}
 use Rattle.guideline.specs.declared.bounds.Bounds.{Bounds}
 use Rattle.guideline.specs.declared.entries.Datum.{Datum}
 use Rattle.guideline.specs.declared.entries.Prescription.{Prescription}
@@ -14,40 +13,28 @@ use Rattle.guideline.specs.declared.refusals.Question.{Question}
 use Rattle.guideline.specs.declared.refusals.Refusal.the-variants.{Asks, Ends}
 use Rattle.guideline.specs.declared.refusals.Signal.{Signal}
 use Rattle.guideline.specs.declared.rows.Row643.{Row643}
-use Rattle.guideline.specs.declared.rows.TableName.the-variants.{T643}
 use Rattle.guideline.specs.Values.{encloses, matters}
 use Rattle.guideline.specs.Ask.{asks-for, Chosen, Refused, Done, run, _>>=_}
-use Rattle.guideline.specs.Table.{Table, Hits, None, One, Many, some, number, among, every}
+use Rattle.guideline.specs.Table.{Table, some, among, every}
 use Rattle.guideline.specs.Steps.{signal, when, refuse, ask, choose, one, narrow, no-frequency, by-frequency, by-measure, one-row}
-use Rattle.cells.specs.Lents.{row-at}
+use Rattle.cells.specs.Tally.{told}
+use Rattle.cells.proofs.Tallied.{told-one}
 use Rattle.filter.specs.declared.Frequency.{Frequency}
 use Rattle.filter.specs.declared.Filter.{Filter}
 use Rattle.filter.specs.declared.Filter.the-variants.{Exact, Twin, UnitOrTwin, Count}
 use Rattle.filter.specs.Filters.{filter643, frequency-of}
 use Rattle.filter.proofs.Frequencies.{exact-filter, twin-filter, unit-filter, count-filter}
-use Rattle.dose_row.specs.declared.remembered.Remembered.{Remembered}
-use Rattle.dose_row.specs.Remembered.{remembered, places, Thinned, frequency-kept}
-use Rattle.dose_row.proofs.Sets.{none-left, one-left, number-left}
+use Rattle.dose_row.specs.Matched.{frequency-kept}
 
 -- a filter that leaves no row is refused; else it goes on with what it leaves
-module _ {l : List ℕ} {p : Row643 → Bool} {t : Table Row643} {s : Remembered} (k : Thinned l p t s) (d : Datum → Value) (none : Ending) where
-  some-left : some (t p) ≡ some (remembered l s every)
-  some-left =
-      ap (λ (q : Row643 → Bool). some (t q)) (fun-ext (λ r. sym (and-true (p r))))
-      ∙ ap (λ (u : Table Row643). some (u every)) (sym (k .same))
-
-  pub narrow-none : s .len ≡ 0 → run d (narrow p none t) ≡ Refused (Ends none) tt
+module _ (p : Row643 → Bool) (t : Table Row643) (d : Datum → Value) (none : Ending) where
+  pub narrow-none : some (t p) ≡ false → run d (narrow p none t) ≡ Refused (Ends none) tt
   unfolding narrow when refuse
-  narrow-none e = rw (some-left ∙ ap some (none-left l s e))
+  narrow-none h = rw h
 
-  some-of-number : (h : Hits Row643) → (number h ≡ 0 → ⊥) → some h ≡ true
-  some-of-number None z = absurd (z refl)
-  some-of-number (One r) z = refl
-  some-of-number (Many n) z = refl
-
-  pub narrow-some : (s .len ≡ 0 → ⊥) → run d (narrow p none t) ≡ Chosen (remembered l s)
+  pub narrow-some : some (t p) ≡ true → run d (narrow p none t) ≡ Chosen (among p t)
   unfolding narrow when
-  narrow-some z = rw (some-left ∙ some-of-number (remembered l s every) (λ e. z (sym (number-left l s) ∙ e))) (ap Chosen (sym (k .same)))
+  narrow-some h = rw h
 
 -- which of step 9's two filters the rows are kept by
 module _ (f : Frequency) (t : Table Row643) where
@@ -120,16 +107,16 @@ module _ (q : Question) (none : Ending) (bounds : Row643 → Bounds) (t : Table 
   measure-given h b = rw (h, b)
 
 -- step 11
-module _ (l : List ℕ) (s : Remembered) (d : Datum → Value) where
-  pub row-one : s .len ≡ 1 → run d (one-row (remembered l s)) ≡ Chosen (row-at T643 l (places s 0))
+module _ (t : Table Row643) (d : Datum → Value) (n : ℕ) (r : Row643) (e : t every ≡ told n r) where
+  pub row-one : n ≡ 1 → run d (one-row t) ≡ Chosen r
   unfolding one-row one choose
-  row-one e = rw (one-left l s e)
+  row-one k = rw (e ∙ told-one r k)
 
-  pub row-several : (s .len ≡ 1 → ⊥) → run d (one-row (remembered l s)) ≡ Refused (Ends RowsSeveral) tt
+  pub row-several : (n ≡ 1 → ⊥) → run d (one-row t) ≡ Refused (Ends RowsSeveral) tt
   unfolding one-row one choose refuse
-  row-several z = go (remembered l s every) (λ e. z (sym (number-left l s) ∙ e))
+  row-several z = rw e (go n z)
     where
-      go : (h : Hits Row643) → (number h ≡ 1 → ⊥) → run d (choose h (refuse RowsSeveral) (λ a. Done a) (refuse RowsSeveral)) ≡ Refused (Ends RowsSeveral) tt
-      go None n = refl
-      go (One r) n = absurd (n refl)
-      go (Many m) n = refl
+      go : (m : ℕ) → (m ≡ 1 → ⊥) → run d (choose (told m r) (refuse RowsSeveral) (λ a. Done a) (refuse RowsSeveral)) ≡ Refused (Ends RowsSeveral) tt
+      go zero z = refl
+      go (suc zero) z = absurd (z refl)
+      go (suc (suc m)) z = refl

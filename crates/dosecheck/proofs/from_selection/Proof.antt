@@ -16,7 +16,7 @@ use Rattle.guideline.specs.Steps.{comparison, to-rule}
 use Rattle.guideline.specs.Check.{answer, refused, compared}
 use Rattle.guideline.proofs.Gives.{gives-table}
 use Rattle.guideline.proofs.Run.{after, run-bind}
-use Rattle.cells.specs.Lents.{rows}
+use Rattle.cells.specs.Lents.{rows, shown}
 use Rattle.selection.specs.Links.{from-product}
 use Rattle.selection.specs.Selecting.{refusal, reached}
 use Rattle.selection.proofs.Told.{told-rule}
@@ -41,7 +41,7 @@ returns c =
     ∙ sym (ap answer (run-bind d p _ ∙ ap (λ (o : Outcome Reached Selected). after o (λ s. Chosen (record { compared = comparison (a .p) s; reached = to-rule (s .context) (s .row) }))) no))
 
 compare-requires : tie.Need-compare-requires
-unfolding rows
+unfolding shown
 compare-requires c κs =
     let at-selected = c .before .before .before in
     let at-select = at-selected .before .before in

@@ -36,7 +36,7 @@ from-selection-requires c κs =
     let a = at-start .args in
     let d = datum (a .d) in
     let p = ratio (rows T730 (now (a .t730))) (a .p) in
-    (ratio-in-range d (rows T730 (now (a .t730))) (a .p) (told-unit (run d p) (at-ratio .ratio .ensures d) (c .before .step .given .1)), at-start .pre)
+    (ratio-in-range d (rows T730 (now (a .t730))) (a .p) (told-unit (run d p) (at-ratio .ratio .ensures d) (c .before .step .given .1)), at-start .pre .0, at-start .pre .1, at-start .pre .2, at-start .pre .3, at-start .pre .4, at-start .pre .5)
 
 returns-2 : tie.Need-returns-2
 returns-2 c =

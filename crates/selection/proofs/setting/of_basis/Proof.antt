@@ -2,7 +2,7 @@
 use borrow.Author.Needs.{needs}
 use denote.Ref.{now}
 use Rattle.guideline.specs.declared.rows.TableName.the-variants.{T642}
-use Rattle.cells.specs.Lents.{rows}
+use Rattle.cells.specs.Lents.{shown}
 use Rattle.selection.proofs.Kept.{setting-kept}
 use Rattle.selection.proofs.setting.of_basis.Statement.{statement}
 use Rattle.selection.proofs.setting.of_basis.Tie as tie
@@ -13,7 +13,7 @@ returns c d =
     let at-reason = at-route .before in
     let at-care = at-reason .before in
     let a = at-care .before .before .args in
-    rw (c .chosen .ensures, at-route .by-route .ensures, at-reason .keep-reason .ensures, at-care .keep-care .ensures) (setting-kept d (rows T642 (now (a .t642))) (a .s) (a .basis))
+    rw (c .chosen .ensures, at-route .by-route .ensures, at-reason .keep-reason .ensures, at-care .keep-care .ensures) (setting-kept d (shown T642 (now (a .t642)) (a .v)) (a .s) (a .basis))
 
 pub of-basis-spec : {M : Type 1} → statement M
 of-basis-spec = tie.close (tie.spec (λ c κs. search needs) (λ c κs. search needs) (λ c κs. search needs) (λ c κs. search needs) returns)
