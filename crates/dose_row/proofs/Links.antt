@@ -18,7 +18,7 @@ use Rattle.guideline.specs.declared.rows.Row643.{Row643}
 use Rattle.guideline.specs.Values.{encloses, matters}
 use Rattle.guideline.specs.Ask.{asks-for, Plan, Chosen, Refused, run, _>>=_, _>>_}
 use Rattle.guideline.specs.Table.{Table, some, number, among, every}
-use Rattle.guideline.specs.Steps.{most-remembered, when, refuse, demand, few, by-measure, of-rows}
+use Rattle.guideline.specs.Steps.{most-in-category, when, refuse, demand, few, by-measure, of-rows}
 use Rattle.guideline.proofs.Run.{after, run-bind}
 use Rattle.dose_row.specs.declared.Chosen643.the-variants.{Refused as No643}
 use Rattle.dose_row.specs.Chosen.{chosen643}
@@ -57,10 +57,10 @@ module _ (q : Question) (none : Ending) (bounds : Row643 → Bounds) (t : Table 
 
 -- the first link: step 7
 module _ (d : Datum → Value) (p : Prescription) (c : Context) (t : Table Row643) where
-  pub too-many : most-remembered < number (t every) → No643 (Ends TooManyRows) ≡ chosen643 (run d (of-rows p c t))
+  pub too-many : most-in-category < number (t every) → No643 (Ends TooManyRows) ≡ chosen643 (run d (of-rows p c t))
   unfolding few demand when refuse _>>_ _>>=_
-  too-many h = rw (linked p c t, lt-leb (number (t every)) most-remembered h)
+  too-many h = rw (linked p c t, lt-leb (number (t every)) most-in-category h)
 
-  pub few-enough : number (t every) ≤ most-remembered → chosen643 (run d (from-age p c t)) ≡ chosen643 (run d (of-rows p c t))
+  pub few-enough : number (t every) ≤ most-in-category → chosen643 (run d (from-age p c t)) ≡ chosen643 (run d (of-rows p c t))
   unfolding few demand when _>>_ _>>=_
-  few-enough h = rw (linked p c t, le-leb (number (t every)) most-remembered h)
+  few-enough h = rw (linked p c t, le-leb (number (t every)) most-in-category h)
