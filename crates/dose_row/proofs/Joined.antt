@@ -5,12 +5,14 @@ use mathlib.Core.Bool.{Bool, true, false, _&&_, and-true, and-comm}
 use Rattle.guideline.specs.declared.rows.Row643.{Row643}
 use Rattle.guideline.specs.declared.rows.TableName.the-variants.{T643}
 use Rattle.guideline.specs.Rows.{keyed}
+use Rattle.filter.specs.declared.Measure.{Measure}
 use Rattle.filter.specs.declared.Measure.the-variants.{Weight, Surface}
 use Rattle.filter.specs.declared.Filter.{Filter}
 use Rattle.filter.specs.declared.Filter.the-variants.{Every, Age, Encloses}
 use Rattle.filter.specs.Filters.{filter643}
 use Rattle.dose_row.specs.declared.settled.Settled.{Settled}
-use Rattle.dose_row.specs.Settled.{and-age, and-frequency, and-weight, and-surface, settled643}
+use Rattle.dose_row.specs.Settled.{and-age, and-frequency, and-weight, and-surface, and-measure, settled643}
+use Rattle.dose_row.specs.Measured.{own-filter, other-filter}
 
 -- the test that was not there yet, at its place among the five
 second : (a q b : Bool) → (a && (q && b)) ≡ ((a && b) && q)
@@ -62,3 +64,12 @@ module _ (s : Settled) (r : Row643) where
   pub surface-joins : (x : ℕ) → s .surface ≡ Every → settled643 (and-surface s x) r ≡ (settled643 s r && filter643 (Encloses Surface x) r)
   unfolding settled643
   surface-joins x e = rw e (fifth own aged as-often weighed (filter643 (Encloses Surface x) r))
+
+-- either measure
+pub measure-joins : (m : Measure) (s : Settled) (x : ℕ) → own-filter m s ≡ Every → (r : Row643) → settled643 (and-measure s m x) r ≡ (settled643 s r && filter643 (Encloses m x) r)
+measure-joins Weight s x e r = weight-joins s r x e
+measure-joins Surface s x e r = surface-joins s r x e
+
+pub other-stays : (m : Measure) (s : Settled) (x : ℕ) → other-filter m (and-measure s m x) ≡ other-filter m s
+other-stays Weight s x = refl
+other-stays Surface s x = refl

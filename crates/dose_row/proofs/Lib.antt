@@ -4,3 +4,4 @@ pub mod Kept
 pub mod Narrowed
 pub mod Links
 pub mod Chosen
+pub mod MeasureTold

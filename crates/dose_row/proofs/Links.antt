@@ -3,27 +3,21 @@ use Prim.Native.Nat.{ℕ, _≤_, _<_}
 use mathlib.Core.Path.{_≡_, refl, sym, _∙_, ap}
 use mathlib.Core.Bool.{true, false}
 use borrow.Author.Tests.{le-leb, lt-leb}
-use Rattle.guideline.specs.declared.bounds.Bounds.{Bounds}
 use Rattle.guideline.specs.declared.context.Context.{Context}
 use Rattle.guideline.specs.declared.entries.Datum.{Datum}
 use Rattle.guideline.specs.declared.entries.Prescription.{Prescription}
 use Rattle.guideline.specs.declared.entries.Value.{Value}
-use Rattle.guideline.specs.declared.entries.Value.the-variants.{Blank, Given}
-use Rattle.guideline.specs.declared.refusals.Ending.{Ending}
 use Rattle.guideline.specs.declared.refusals.Ending.the-variants.{TooManyRows}
-use Rattle.guideline.specs.declared.refusals.Question.{Question}
 use Rattle.guideline.specs.declared.refusals.Refusal.{Refusal}
-use Rattle.guideline.specs.declared.refusals.Refusal.the-variants.{Asks, Ends}
+use Rattle.guideline.specs.declared.refusals.Refusal.the-variants.{Ends}
 use Rattle.guideline.specs.declared.rows.Row643.{Row643}
-use Rattle.guideline.specs.Values.{encloses, matters}
-use Rattle.guideline.specs.Ask.{asks-for, Plan, Chosen, Refused, run, _>>=_, _>>_}
-use Rattle.guideline.specs.Table.{Table, some, number, among, every}
-use Rattle.guideline.specs.Steps.{most-in-category, when, refuse, demand, few, by-measure, of-rows}
+use Rattle.guideline.specs.Ask.{Plan, Chosen, Refused, run, _>>=_, _>>_}
+use Rattle.guideline.specs.Table.{Table, number, every}
+use Rattle.guideline.specs.Steps.{most-in-category, when, refuse, demand, few, of-rows}
 use Rattle.guideline.proofs.Run.{after, run-bind}
 use Rattle.dose_row.specs.declared.Chosen643.the-variants.{Refused as No643}
 use Rattle.dose_row.specs.Chosen.{chosen643}
 use Rattle.dose_row.specs.Links.{from-age, from-frequency, from-weight, from-surface}
-use Rattle.dose_row.proofs.Narrowed.{narrow-none, narrow-some, measure-unneeded, measure-blank, measure-given}
 
 -- the links are the guideline's chain
 pub linked : (p : Prescription) (c : Context) (t : Table Row643) → of-rows p c t ≡ (few t >> from-age p c t)
@@ -36,24 +30,6 @@ module _ {A : Type 0} (d : Datum → Value) (p : Plan (Unit {0}) A) (next : A �
 
   pub chosen-then : {a : A} → run d p ≡ Chosen a → chosen643 (run d (next a)) ≡ chosen643 (run d (p >>= next))
   chosen-then h = sym (ap chosen643 (run-bind d p next ∙ ap (λ o. after o (λ a. run d (next a))) h))
-
--- step 10: the measure matters to no row and the next link follows; or it is asked for, and the rows that enclose it are left
-module _ (q : Question) (none : Ending) (bounds : Row643 → Bounds) (t : Table Row643) (d : Datum → Value) (next : Table Row643 → Plan (Unit {0}) Row643) where
-  pub unneeded-then : some (t (λ r. matters (bounds r))) ≡ false → chosen643 (run d (next t)) ≡ chosen643 (run d (by-measure q none bounds t >>= next))
-  unneeded-then h = chosen-then d (by-measure q none bounds t) next (measure-unneeded q none bounds t d h)
-
-  module _ (needed : some (t (λ r. matters (bounds r))) ≡ true) where
-    pub blank-here : d (asks-for q) ≡ Blank → No643 (Asks q) ≡ chosen643 (run d (by-measure q none bounds t >>= next))
-    blank-here b = refused-here d (by-measure q none bounds t) next (measure-blank q none bounds t d needed b)
-
-    module _ {x : ℕ} (given : d (asks-for q) ≡ Given x) where
-      pub none-here : some (t (λ r. encloses (bounds r) x)) ≡ false → No643 (Ends none) ≡ chosen643 (run d (by-measure q none bounds t >>= next))
-      none-here h =
-          refused-here d (by-measure q none bounds t) next (measure-given q none bounds t d needed given ∙ narrow-none (λ r. encloses (bounds r) x) t d none h)
-
-      pub left-then : {left : Table Row643} → some (t (λ r. encloses (bounds r) x)) ≡ true → left ≡ among (λ r. encloses (bounds r) x) t → chosen643 (run d (next left)) ≡ chosen643 (run d (by-measure q none bounds t >>= next))
-      left-then h e =
-          chosen-then d (by-measure q none bounds t) next (measure-given q none bounds t d needed given ∙ narrow-some (λ r. encloses (bounds r) x) t d none h ∙ ap Chosen (sym e))
 
 -- the first link: step 7
 module _ (d : Datum → Value) (p : Prescription) (c : Context) (t : Table Row643) where

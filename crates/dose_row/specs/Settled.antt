@@ -8,6 +8,7 @@ use Rattle.guideline.specs.declared.view.View.{View}
 use Rattle.guideline.specs.Table.{Table, among}
 use Rattle.guideline.specs.Rows.{keyed}
 use Rattle.cells.specs.Lents.{shown}
+use Rattle.filter.specs.declared.Measure.{Measure}
 use Rattle.filter.specs.declared.Measure.the-variants.{Weight, Surface}
 use Rattle.filter.specs.declared.Filter.{Filter}
 use Rattle.filter.specs.declared.Filter.the-variants.{Every, Age, Encloses}
@@ -33,6 +34,10 @@ and-weight s x =
 abbrev pub and-surface : Settled → ℕ → Settled
 and-surface s x =
     record { category = s .category; age = s .age; frequency = s .frequency; weight = s .weight; surface = Encloses Surface x }
+
+abbrev pub and-measure : Settled → Measure → ℕ → Settled
+and-measure s Weight x = and-weight s x
+and-measure s Surface x = and-surface s x
 
 -- a row passes all that is settled
 unfoldable pub settled643 : Settled → Row643 → Bool

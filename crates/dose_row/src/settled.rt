@@ -3,7 +3,7 @@
 ghost use mathlib.Core.Path.{_≡_};
 ghost use mathlib.Core.Bool.{_&&_};
 ghost use Rattle.filter.specs.Filters.{filter643};
-ghost use Rattle.dose_row.specs.Settled.{of-category, and-age, and-frequency, and-weight, and-surface, settled643};
+ghost use Rattle.dose_row.specs.Settled.{of-category, and-age, and-frequency, and-weight, and-surface, and-measure, settled643};
 use filter::Filter;
 use filter::Measure;
 use guideline::rows::Row643;
@@ -90,6 +90,16 @@ impl Settled {
             frequency,
             weight,
             surface: Filter::Encloses(Measure::Surface, x),
+        }
+    }
+
+    // Either of the two.
+    pub fn by_measure(self, m: Measure, x: u32) -> Settled
+        ensures { λ r. ⌜ r ≡ and-measure self m x ⌝ }
+    {
+        match m {
+            Measure::Weight => self.by_weight(x),
+            Measure::Surface => self.by_surface(x),
         }
     }
 

@@ -1,94 +1,50 @@
--- The step is refused, or the next link follows, where the weight matters to no row with the same rows. Assumes nothing.
+-- The step is refused, or the next link follows with the rows that are left. Assumes nothing.
 use borrow.Author.Needs.{needs}
-use Prim.Native.Nat.{_+_, _*_, _≤_}
-use mathlib.Core.Path.{sym, _∙_, ap}
-use native.Mathlib.Omega.{arith}
-use lib.ListN.{length}
+use mathlib.Core.Path.{refl, sym, _∙_, ap}
 use denote.Ref.{now}
-use Rattle.guideline.specs.declared.refusals.Ending.the-variants.{NoRowForWeight}
-use Rattle.guideline.specs.declared.refusals.Question.the-variants.{WeightOfRow}
 use Rattle.guideline.specs.Entries.{datum}
-use Rattle.guideline.specs.Rows.{weight-bounds}
 use Rattle.guideline.specs.Steps.{by-weight}
-use Rattle.cells.proofs.Views.{narrowed-first, narrowed-fits}
 use Rattle.filter.specs.declared.Measure.the-variants.{Weight}
-use Rattle.filter.specs.declared.Filter.the-variants.{Encloses, Matters}
-use Rattle.dose_row.specs.declared.settled.Settled.{Settled}
+use Rattle.dose_row.specs.declared.Chosen643.the-variants.{Refused}
 use Rattle.dose_row.specs.Links.{from-weight, from-surface}
-use Rattle.dose_row.specs.Settled.{and-weight, kept}
-use Rattle.dose_row.proofs.Joined.{weight-joins}
-use Rattle.dose_row.proofs.Kept.{first-none, first-some, narrowed-kept}
-use Rattle.dose_row.proofs.Links.{unneeded-then, blank-here, none-here, left-then}
+use Rattle.dose_row.specs.Measured.{refusal-of}
+use Rattle.dose_row.specs.Settled.{kept}
+use Rattle.dose_row.proofs.MeasureTold.{told-measure}
+use Rattle.dose_row.proofs.Links.{refused-here, chosen-then}
 use Rattle.dose_row.proofs.from_weight.Statement.{statement}
 use Rattle.dose_row.proofs.from_weight.Tie as tie
 
 returns : tie.Need-returns
 unfolding from-weight by-weight
 returns c =
-    let at-matters = c .before .before .before in
-    let a = at-matters .before .before .args in
-    let t = kept (now (a .t643)) (a .v) (a .s) in
-    let unneeded = first-none (now (a .t643)) (a .v) (a .s) (Matters Weight) (at-matters .first .ensures) (c .before .if1 .taken) in
-    c .from-surface .ensures ∙ unneeded-then WeightOfRow NoRowForWeight weight-bounds t (datum (a .d)) from-surface unneeded
+    let at-told = c .before in
+    let at-step = at-told .before .before in
+    let a = at-step .before .before .args in
+    let l = now (a .t643) in
+    let no = told-measure l (a .v) (a .s) Weight (a .d .weight) (at-step .by-measure .ensures) (at-told .enum-told .given .1) in
+    ap Refused (c .refusal .ensures ∙ ap refusal-of (at-told .enum-told .given .1))
+    ∙ refused-here (datum (a .d)) (by-weight (kept l (a .v) (a .s))) from-surface (no (datum (a .d)) refl)
+
+from-surface-requires : tie.Need-from-surface-requires
+from-surface-requires c κs =
+    let at-rows = c .before in
+    let at-step = at-rows .before .before in
+    let at-start = at-step .before .before in
+    let a = at-start .args in
+    let yes = told-measure (now (a .t643)) (a .v) (a .s) Weight (a .d .weight) (at-step .by-measure .ensures) (at-rows .step .given .1) in
+    let not-yet = yes .1 ∙ at-start .pre .2 in
+    (yes .0, search (not-yet, at-start .pre .2, needs))
 
 returns-2 : tie.Need-returns-2
 unfolding from-weight by-weight
 returns-2 c =
-    let at-if = c .before .before in
-    let a = at-if .before .before .before .before .args in
-    let t = kept (now (a .t643)) (a .v) (a .s) in
-    let needed = first-some (now (a .t643)) (a .v) (a .s) (Matters Weight) (at-if .before .before .first .ensures) (at-if .if1 .left) in
-    blank-here WeightOfRow NoRowForWeight weight-bounds t (datum (a .d)) from-surface needed (c .enum-told .given .1)
-
-returns-3 : tie.Need-returns-3
-unfolding from-weight by-weight
-returns-3 c =
-    let at-first = c .before .before in
-    let at-weight = at-first .before .before in
-    let at-if = at-weight .before .before in
-    let a = at-if .before .before .before .before .args in
-    let t = kept (now (a .t643)) (a .v) (a .s) in
-    let needed = first-some (now (a .t643)) (a .v) (a .s) (Matters Weight) (at-if .before .before .first .ensures) (at-if .if1 .left) in
-    let none-left = first-none (now (a .t643)) (a .v) (a .s) (Encloses Weight (at-weight .weight .given .0 .0)) (at-first .first2 .ensures) (omega arith) in
-    none-here WeightOfRow NoRowForWeight weight-bounds t (datum (a .d)) from-surface needed (at-weight .weight .given .1) none-left
-
-narrow-requires : tie.Need-narrow-requires
-narrow-requires c κs =
-    let at-first = c .before .before .before in
-    let at-start = at-first .before .before .before .before .before .before .before .before in
-    let i = at-first .first2 .result in
-    let a = at-start .args in
-    let h : a .v .first + i * a .v .step ≤ length (now (a .t643)) = narrowed-first i (at-first .first2 .ensures .0) (at-start .pre .0) in
-    (omega arith, omega arith)
-
-from-surface-requires-2 : tie.Need-from-surface-requires-2
-from-surface-requires-2 c κs =
-    let at-first = c .before .before .before .before in
-    let at-start = at-first .before .before .before .before .before .before .before .before in
-    let i = at-first .first2 .result in
-    let fits = narrowed-fits i (at-start .args .v .rows) (at-first .first2 .ensures .0) (omega arith) (at-start .pre .0) in
-    let not-yet = ap (λ (s : Settled). s .surface) (c .before .by-weight .ensures) ∙ at-start .pre .2 in
-    (rw (c .narrow .ensures) fits, search (not-yet, at-start .pre .2, needs))
-
-returns-4 : tie.Need-returns-4
-unfolding from-weight by-weight
-returns-4 c =
-    let at-narrow = c .before in
-    let at-left = at-narrow .before in
-    let at-if2 = at-left .before in
-    let at-first = at-if2 .before .before in
-    let at-weight = at-first .before .before in
-    let at-if = at-weight .before .before in
-    let at-start = at-if .before .before .before .before in
-    let a = at-start .args in
+    let at-rows = c .before .before in
+    let at-step = at-rows .before .before in
+    let a = at-step .before .before .args in
     let l = now (a .t643) in
-    let t = kept l (a .v) (a .s) in
-    let x = at-weight .weight .given .0 .0 in
-    let needed = first-some (now (a .t643)) (a .v) (a .s) (Matters Weight) (at-if .before .before .first .ensures) (at-if .if1 .left) in
-    let some-left = first-some l (a .v) (a .s) (Encloses Weight x) (at-first .first2 .ensures) (λ e. omega arith) in
-    let left = narrowed-kept l (a .v) (a .s) (and-weight (a .s) x) (Encloses Weight x) (λ r. weight-joins (a .s) r x (at-start .pre .1)) (at-first .first2 .ensures) (at-narrow .narrow .ensures) (at-left .by-weight .ensures) in
-    c .from-surface2 .ensures
-    ∙ left-then WeightOfRow NoRowForWeight weight-bounds t (datum (a .d)) from-surface needed (at-weight .weight .given .1) some-left left
+    let yes = told-measure l (a .v) (a .s) Weight (a .d .weight) (at-step .by-measure .ensures) (at-rows .step .given .1) in
+    c .from-surface .ensures
+    ∙ chosen-then (datum (a .d)) (by-weight (kept l (a .v) (a .s))) from-surface (yes .2 (datum (a .d)) refl)
 
 pub from-weight-spec : {M : Type 1} → statement M
-from-weight-spec = tie.close (tie.spec (λ c κs. search needs) (λ c κs. search needs) returns (λ c. search needs) (λ c. search needs) returns-2 (λ c κs. search needs) returns-3 (λ c κs. search needs) narrow-requires from-surface-requires-2 returns-4)
+from-weight-spec = tie.close (tie.spec (λ c κs. search needs) (λ c. search needs) (λ c. search needs) (λ c κs. search needs) returns from-surface-requires returns-2)
