@@ -1,5 +1,6 @@
 pub mod Without
 pub mod Answers
 pub mod RisingKeys
+pub mod TablesSeen
 pub mod Visits
 pub mod OneResult
