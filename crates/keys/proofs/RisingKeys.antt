@@ -4,9 +4,10 @@ use mathlib.Core.Path.{_≡_, refl}
 use mathlib.Core.Logic.{⊎-elim}
 use mathlib.Core.Bool.{Bool, true, false, _&&_}
 use native.Mathlib.Nat.{eq-or-lt-of-le, le-trans, lt-of-le-of-lt}
+use native.Mathlib.Decide.{le-ind}
 use native.Mathlib.Numerals.{add-one}
 use native.Mathlib.Omega.{arith}
-use borrow.Author.Tests.{leb-true, le-leb, ltb-true, ltb-false}
+use borrow.Author.Tests.{leb-true, le-leb, lt-leb, ltb-true, ltb-false}
 use lib.Dec.{leb, ltb}
 use Rattle.keys.specs.Rising.{Rising, key-before, rises, From, Between}
 
@@ -52,6 +53,21 @@ rises-more f n = rw add-one
 
 pub before-more : (f : ℕ → ℕ) (n : ℕ) → key-before f (n + 1) ≡ f n
 before-more f n = rw add-one
+
+-- keys rise by one row more, or fall there, and then they do not rise
+pub rises-on : (f : ℕ → ℕ) (n : ℕ) → rises f n ≡ true → key-before f n ≤ f n → rises f (n + 1) ≡ true
+rises-on f n h up = rw (rises-more f n, h) (le-leb (key-before f n) (f n) up)
+
+pub falls-here : (f : ℕ → ℕ) (n : ℕ) → f n < key-before f n → rises f (n + 1) ≡ false
+falls-here f n down = rw (rises-more f n, lt-leb (key-before f n) (f n) down) (and-false (rises f n))
+  where
+    and-false : (p : Bool) → (p && false) ≡ false
+    and-false true = refl
+    and-false false = refl
+
+pub fall-stays : (f : ℕ → ℕ) (m n : ℕ) → m ≤ n → rises f m ≡ false → rises f n ≡ false
+unfolding rises
+fall-stays f m = le-ind (λ n. rises f m ≡ false → rises f n ≡ false) (λ h. h) (λ n le rec h. rw (rec h))
 
 -- a half more, or less, is looked at
 module _ {f : ℕ → ℕ} {n low a b : ℕ} (rise : Rising f n) (k : Between f n low a b) (m : ℕ) (below : m < b) where

@@ -1,5 +1,5 @@
 -- A table whose rows are tested one by one: one that is out of range is found, or all are tested. Assumes nothing.
-use Prim.Native.Nat.{ℕ, _<_, _≤_}
+use Prim.Native.Nat.{ℕ, _+_, _<_, _≤_}
 use mathlib.Core.Path.{_≡_, refl, sym, _∙_, ap, subst}
 use mathlib.Core.Bool.{Bool, true, false, not}
 use mathlib.Core.List.{List}
@@ -12,40 +12,46 @@ use Rattle.guideline.specs.declared.view.View.{View}
 use Rattle.guideline.specs.Rows.{Row, width, sound-row}
 use Rattle.guideline.specs.Steps.{all-rows}
 use Rattle.cells.specs.declared.Tally.{Tally}
-use Rattle.cells.specs.Tally.{tallied, Tallying}
+use Rattle.cells.specs.Tally.{tallied}
 use Rattle.cells.specs.Views.{Fits}
 use Rattle.cells.specs.Lents.{shown, row-at, key-at}
-use Rattle.cells.proofs.Tallied.{counted-once, tallying-all}
+use Rattle.cells.proofs.Tallied.{counted-once, tallying-none, tallying-miss, tallying-all}
 use Rattle.cells.proofs.Lents.{rows-none}
 use Rattle.keys.specs.Keys.{key-of}
 use Rattle.keys.specs.Rising.{rises}
 use Rattle.ranges.specs.declared.rows.Finding.the-variants.{OutOfRange, InRange}
-use Rattle.ranges.specs.Soundly.{tested}
+use Rattle.ranges.specs.Soundly.{InRangeUpTo, tested}
 
 module _ (n : TableName) (l : List ℕ) (v : View) where
-  abbrev pub unsound-at : ℕ → Bool
+  abbrev unsound-at : ℕ → Bool
   unsound-at i = not (sound-row n (row-at n l v i))
 
   none-unsound : all-rows (sound-row n) (shown n l v) ≡ eqb (tallied unsound-at (v .rows) .count) 0
   none-unsound = rows-none n l v (λ r. not (sound-row n r)) refl
 
-  pub found-unsound : (i : ℕ) → i < v .rows → sound-row n (row-at n l v i) ≡ false → OutOfRange ≡ tested n l v
-  unfolding tested
-  found-unsound i below e = rw all
-    where
-      all : all-rows (sound-row n) (shown n l v) ≡ false
-      all =
-          none-unsound
-          ∙ ne-eqb (tallied unsound-at (v .rows) .count) 0 (λ z. let k : 0 < tallied unsound-at (v .rows) .count = counted-once unsound-at i (v .rows) below (ap not e) in let y : tallied unsound-at (v .rows) .count ≡ 0 = z in omega arith)
+  pub found-unsound : (i : ℕ) → i < v .rows → sound-row n (row-at n l v i) ≡ false → all-rows (sound-row n) (shown n l v) ≡ false
+  found-unsound i below e =
+      none-unsound
+      ∙ ne-eqb (tallied unsound-at (v .rows) .count) 0 (λ z. let k : 0 < tallied unsound-at (v .rows) .count = counted-once unsound-at i (v .rows) below (ap not e) in let y : tallied unsound-at (v .rows) .count ≡ 0 = z in omega arith)
 
-  pub all-tested : {i k : ℕ} {b : Bool} → k ≡ key-at n → Tallying unsound-at (v .rows) i 0 0 → b ≡ rises (key-of l v k) i → v .rows ≤ i → InRange b ≡ tested n l v
+  pub all-sound : {i : ℕ} → InRangeUpTo n l v i → v .rows ≤ i → all-rows (sound-row n) (shown n l v) ≡ true
+  all-sound none all = none-unsound ∙ ap (λ (t : Tally). eqb (t .count) 0) (sym (tallying-all unsound-at none all))
+
+  -- a row more
+  pub none-tested : InRangeUpTo n l v 0
+  none-tested = tallying-none unsound-at (v .rows)
+
+  pub one-tested : {i : ℕ} → InRangeUpTo n l v i → i < v .rows → sound-row n (row-at n l v i) ≡ true → InRangeUpTo n l v (i + 1)
+  one-tested k below e = tallying-miss unsound-at k below (ap not e)
+
+  -- what the pass over the table comes to
+  pub tested-out : all-rows (sound-row n) (shown n l v) ≡ false → OutOfRange ≡ tested n l v
   unfolding tested
-  all-tested {i} {k} {b} at-key none rise all =
-      let end : i ≡ v .rows = omega arith in
-      rw (in-range, ← end, ← at-key, rise)
-    where
-      in-range : all-rows (sound-row n) (shown n l v) ≡ true
-      in-range = none-unsound ∙ ap (λ (t : Tally). eqb (t .count) 0) (sym (tallying-all unsound-at none all))
+  tested-out e = rw e
+
+  pub tested-in : {b : Bool} → all-rows (sound-row n) (shown n l v) ≡ true → rises (key-of l v (key-at n)) (v .rows) ≡ b → InRange b ≡ tested n l v
+  unfolding tested
+  tested-in e rise = rw (e, rise)
 
 -- the row of a table, where its name is known
 module _ {n m : TableName} (same : n ≡ m) (l : List ℕ) (v : View) (i : ℕ) where

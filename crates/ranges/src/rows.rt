@@ -1,11 +1,15 @@
 // 122 of a table, by its name, in one pass that also sees whether the keys rise.
 ghost use mathlib.Core.Path.{_≡_};
+ghost use mathlib.Core.Bool.{false};
 ghost use Prim.Native.Nat.{_<_};
 ghost use lib.ListN.{length};
 ghost use Rattle.guideline.specs.Rows.{width, sound-row};
+ghost use Rattle.guideline.specs.Steps.{all-rows};
 ghost use Rattle.cells.specs.Views.{Fits};
-ghost use Rattle.cells.specs.Lents.{row-at};
-ghost use Rattle.ranges.specs.Soundly.{tested};
+ghost use Rattle.cells.specs.Lents.{shown, row-at, key-at};
+ghost use Rattle.keys.specs.Keys.{key-of};
+ghost use Rattle.keys.specs.Rising.{rises};
+ghost use Rattle.ranges.specs.Soundly.{InRangeUpTo, tested};
 use crate::t640;
 use crate::t641;
 use crate::t642;
@@ -35,13 +39,39 @@ fn row_in_range(t: &[u8], v: View, n: TableName, i: usize) -> bool
     }
 }
 
+// 122 of the rows from one on, where those before it passed.
+fn rest_in_range(t: &[u8], v: View, n: TableName, from: usize) -> bool
+    requires { ⌜ Fits (width n) v (length (now t)) × InRangeUpTo n (now t) v from ⌝ }
+    ensures { λ r. ⌜ r ≡ all-rows (sound-row n) (shown n (now (t .entry)) v) ⌝ }
+{
+    let rows = v.rows;
+    let mut i = from;
+    while i < rows {
+        if !row_in_range(t, v, n, i) {
+            return false;
+        }
+        i += 1;
+    }
+    true
+}
+
+// Once a key falls, the keys of the other rows are not looked at.
+fn after_a_fall(t: &[u8], v: View, n: TableName, from: usize) -> Finding
+    requires { ⌜ Fits (width n) v (length (now t)) × InRangeUpTo n (now t) v from × (rises (key-of (now t) v (key-at n)) from ≡ false) ⌝ }
+    ensures { λ r. ⌜ r ≡ tested n (now (t .entry)) v ⌝ }
+{
+    if rest_in_range(t, v, n, from) {
+        return Finding::InRange(false);
+    }
+    Finding::OutOfRange
+}
+
 pub fn tested(t: &[u8], v: View, n: TableName) -> Finding
     requires { ⌜ Fits (width n) v (length (now t)) ⌝ }
     ensures { λ r. ⌜ r ≡ tested n (now (t .entry)) v ⌝ }
 {
     let k = cells::key_at(n);
     let rows = v.rows;
-    let mut rising = true;
     let mut last: u32 = 0;
     let mut i: usize = 0;
     while i < rows {
@@ -49,9 +79,11 @@ pub fn tested(t: &[u8], v: View, n: TableName) -> Finding
             return Finding::OutOfRange;
         }
         let key = cells::cell(t, v, i, k);
-        rising = guideline::both(rising, last <= key);
-        last = key;
         i += 1;
+        if key < last {
+            return after_a_fall(t, v, n, i);
+        }
+        last = key;
     }
-    Finding::InRange(rising)
+    Finding::InRange(true)
 }
