@@ -1,5 +1,5 @@
 -- A table seen row after row fits, and so does a narrower view, which shows the same numbers. Assumes nothing.
-use Prim.Native.Nat.{ℕ, _+_, _-_, _*_, _/_, _≤_, _<_}
+use Prim.Native.Nat.{ℕ, _+_, _-_, _*_, _≤_}
 use mathlib.Core.Path.{_≡_, ap}
 use mathlib.Core.List.{List}
 use native.Mathlib.Nat.{add-mul, mul-assoc, mul-le-mul-right, div-le-self, div-mul-le-self}

@@ -1,7 +1,7 @@
 -- The rows that are kept by what is settled: what the first place tells of them, what a filter more leaves of them, how many they are.
 -- Assumes nothing.
-use Prim.Native.Nat.{ℕ, _≤_, _<_}
-use mathlib.Core.Path.{_≡_, refl, sym, _∙_, ap, ap₂, fun-ext}
+use Prim.Native.Nat.{ℕ, _<_}
+use mathlib.Core.Path.{_≡_, refl, _∙_, ap, ap₂, fun-ext}
 use mathlib.Core.Bool.{Bool, true, false, not, _&&_, and-true, and-assoc}
 use mathlib.Core.List.{List}
 use native.Mathlib.Omega.{arith}

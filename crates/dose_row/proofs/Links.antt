@@ -1,7 +1,6 @@
 -- A link: the step is refused, and so is all from there on; or it chose, and the next link follows. Assumes nothing.
-use Prim.Native.Nat.{ℕ, _≤_, _<_}
+use Prim.Native.Nat.{_≤_, _<_}
 use mathlib.Core.Path.{_≡_, refl, sym, _∙_, ap}
-use mathlib.Core.Bool.{true, false}
 use borrow.Author.Tests.{le-leb, lt-leb}
 use Rattle.guideline.specs.declared.context.Context.{Context}
 use Rattle.guideline.specs.declared.entries.Datum.{Datum}

@@ -10,7 +10,6 @@ use Rattle.guideline.specs.declared.refusals.Ending.the-variants.{NoRowForWeigh
 use Rattle.guideline.specs.declared.refusals.Question.{Question}
 use Rattle.guideline.specs.declared.refusals.Question.the-variants.{WeightOfRow, SurfaceOfRow}
 use Rattle.guideline.specs.declared.refusals.Refusal.{Refusal}
-use Rattle.guideline.specs.declared.rows.Row643.{Row643}
 use Rattle.guideline.specs.declared.rows.TableName.the-variants.{T643}
 use Rattle.guideline.specs.declared.view.View.{View}
 use Rattle.guideline.specs.Ask.{asks-for, Chosen, Refused, run, no-refusal}

@@ -7,7 +7,7 @@ use native.Mathlib.Nat.{add-zero, add-suc}
 use native.Mathlib.Decide.{le-ind}
 use native.Mathlib.Omega.{arith}
 use lib.ListN.{length}
-use Rattle.guideline.specs.Table.{keep, hits, table}
+use Rattle.guideline.specs.Table.{keep, hits}
 use Rattle.guideline.specs.declared.rows.TableName.{TableName}
 use Rattle.guideline.specs.declared.view.View.{View}
 use Rattle.guideline.specs.Rows.{Row, width, read-row}

@@ -1,4 +1,5 @@
--- What `stretch`, `halved` and `find` promise, one result only has, but for where a stretch of no rows begins. Assumes nothing.
+-- What `next` promises, one result only has; and what `stretch`, `halved` and `find` promise too, but for where a stretch of no rows begins. Assumes
+-- nothing.
 use Prim.Native.Nat.{ℕ, _-_, _<_, _≤_}
 use mathlib.Core.Path.{_≡_, refl, sym, _∙_, ap}
 use mathlib.Core.Bool.{Bool, true, false}
@@ -7,7 +8,7 @@ use native.Mathlib.Omega.{arith}
 use borrow.Author.Tests.{ltb-true, ltb-false}
 use lib.Dec.{ltb}
 use Rattle.guideline.specs.declared.view.View.{View}
-use Rattle.keys.specs.Keys.{key-of, Stretch}
+use Rattle.keys.specs.Keys.{key-of, Next, Stretch}
 
 not-less : (r s : ℕ) → (r < s → ⊥) → s ≤ r
 not-less r s h = go (ltb r s) (ltb-true r s) (ltb-false r s)
@@ -22,6 +23,16 @@ not-more r s h = go (ltb s r) (ltb-true s r) (ltb-false s r)
     go : (b : Bool) → (b ≡ true → s < r) → (b ≡ false → r ≤ s) → s < r
     go true x y = x refl
     go false x y = absurd (h (y refl))
+
+module _ (f : ℕ → ℕ) (n key from : ℕ) where
+  next-not-before : (r s : ℕ) → Next f n key from r → Next f n key from s → r < s → ⊥
+  next-not-before r s p q less = q .2 r (p .0) less (p .3 (omega (arith, q .1)))
+
+  pub next-one : (r s : ℕ) → Next f n key from r → Next f n key from s → r ≡ s
+  next-one r s p q =
+      let a : s ≤ r = not-less r s (next-not-before r s p q) in
+      let b : r ≤ s = not-less s r (next-not-before s r q p) in
+      omega arith
 
 module _ {l : List ℕ} {v p : View} {k key : ℕ} (c : Stretch l v k key p) where
   -- no row has the key

@@ -1,5 +1,4 @@
 // The stretch of a table where a key stands, by halving, where the keys rise.
-ghost use mathlib.Core.Path.{_≡_};
 ghost use Prim.Native.Nat.{_+_, _<_};
 ghost use lib.ListN.{length};
 ghost use Rattle.cells.specs.Views.{Fits};

@@ -1,6 +1,6 @@
 -- The step is refused, or the next link follows with the rows that are left. Assumes nothing.
 use borrow.Author.Needs.{needs}
-use mathlib.Core.Path.{refl, sym, _∙_, ap}
+use mathlib.Core.Path.{refl, _∙_, ap}
 use denote.Ref.{now}
 use Rattle.guideline.specs.Entries.{datum}
 use Rattle.guideline.specs.Steps.{by-surface, one-row}

@@ -12,7 +12,7 @@ use Rattle.guideline.specs.Ask.{Chosen, Refused}
 use Rattle.guideline.specs.Values.{encloses}
 use Rattle.cells.proofs.Views.{narrowed-first, narrowed-fits}
 use Rattle.filter.specs.declared.Filter.the-variants.{Encloses, Matters}
-use Rattle.filter.specs.Filters.{filter643, measure-bounds}
+use Rattle.filter.specs.Filters.{measure-bounds}
 use Rattle.dose_row.specs.Measured.{question-of, ending-of, other-filter}
 use Rattle.dose_row.specs.Settled.{and-measure, kept}
 use Rattle.dose_row.proofs.Joined.{measure-joins, other-stays}

@@ -1,5 +1,4 @@
 -- Either way it is the stretch. Assumes nothing.
-use borrow.Author.Needs.{needs}
 use mathlib.Core.Path.{sym, _∙_}
 use Rattle.keys.proofs.RisingKeys.{rises-rising}
 use Rattle.keys.proofs.find.find.Statement.{statement}

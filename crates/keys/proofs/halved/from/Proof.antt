@@ -1,9 +1,7 @@
 -- The rows below a are below the bound, those from b on are not. Assumes nothing.
 use borrow.Author.Needs.{needs}
-use Prim.Native.Nat.{_+_, _-_, _/_, _≤_}
-use mathlib.Core.Path.{sym}
+use Prim.Native.Nat.{_+_, _-_, _/_}
 use native.Mathlib.Omega.{arith}
-use denote.Ref.{now}
 use Rattle.keys.specs.Keys.{key-of}
 use Rattle.keys.specs.Rising.{Between}
 use Rattle.keys.proofs.RisingKeys.{upper-half, lower-half}
