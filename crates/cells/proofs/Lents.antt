@@ -4,6 +4,7 @@ use Prim.Native.Nat.{ℕ, _<_, _≤_}
 use mathlib.Core.Path.{_≡_, refl, _∙_, ap}
 use mathlib.Core.Bool.{Bool, true, false, not}
 use native.Mathlib.Omega.{arith}
+use borrow.Author.Tests.{ne-eqb}
 use lib.Dec.{eqb}
 use mathlib.Core.List.{List}
 use Rattle.guideline.specs.Table.{some, number}
@@ -13,9 +14,9 @@ use Rattle.guideline.specs.declared.view.View.{View}
 use Rattle.guideline.specs.Rows.{Row, width, read-row, key}
 use Rattle.guideline.specs.Bytes.{seen}
 use Rattle.cells.specs.declared.Tally.{Tally}
-use Rattle.cells.specs.Tally.{told}
+use Rattle.cells.specs.Tally.{tallied, told, Tallying}
 use Rattle.cells.specs.Lents.{shown, row-at, tally-of, key-at}
-use Rattle.cells.proofs.Tallied.{hits-tallied, some-told, number-told}
+use Rattle.cells.proofs.Tallied.{hits-tallied, some-told, number-told, counted-once, tallying-all}
 
 -- what the tally tells of the rows
 module _ (n : TableName) (l : List ℕ) (v : View) (p : Row n → Bool) where
@@ -26,12 +27,15 @@ module _ (n : TableName) (l : List ℕ) (v : View) (p : Row n → Bool) where
   pub rows-some : {t : Tally} → t ≡ tally-of n l v p → some (shown n l v p) ≡ not (eqb (t .count) 0)
   rows-some {t} e = ap some (rows-told e) ∙ some-told (t .count) (row-at n l v (t .last))
 
-  pub rows-none : {t : Tally} → t ≡ tally-of n l v p → not (some (shown n l v p)) ≡ eqb (t .count) 0
-  rows-none {t} e = ap not (rows-some e) ∙ go (eqb (t .count) 0)
-    where
-      go : (b : Bool) → not (not b) ≡ b
-      go true = refl
-      go false = refl
+  -- a row with the property is there; no row that a loop has passed has it
+  pub rows-found : (i : ℕ) → i < v .rows → p (row-at n l v i) ≡ true → some (shown n l v p) ≡ true
+  rows-found i below hit =
+      let h : ℕ → Bool = λ j. p (row-at n l v j) in
+      let more : 0 < tallied h (v .rows) .count = counted-once h i (v .rows) below hit in
+      rows-some refl ∙ ap not (ne-eqb (tallied h (v .rows) .count) 0 (λ z. let y : tallied h (v .rows) .count ≡ 0 = z in omega arith))
+
+  pub rows-missed : {i : ℕ} → Tallying (λ j. p (row-at n l v j)) (v .rows) i 0 0 → v .rows ≤ i → some (shown n l v p) ≡ false
+  rows-missed k all = rows-some (tallying-all (λ j. p (row-at n l v j)) k all)
 
   pub rows-number : {t : Tally} → t ≡ tally-of n l v p → number (shown n l v p) ≡ t .count
   rows-number {t} e = ap number (rows-told e) ∙ number-told (t .count) (row-at n l v (t .last))

@@ -1,12 +1,10 @@
 -- The rows that are kept by what is settled: what the first place tells of them, what a filter more leaves of them, how many they are.
 -- Assumes nothing.
 use Prim.Native.Nat.{ℕ, _<_}
-use mathlib.Core.Path.{_≡_, refl, _∙_, ap, ap₂, fun-ext}
-use mathlib.Core.Bool.{Bool, true, false, not, _&&_, and-true, and-assoc}
+use mathlib.Core.Path.{_≡_, _∙_, ap, ap₂, fun-ext}
+use mathlib.Core.Bool.{Bool, true, false, _&&_, and-true, and-assoc}
 use mathlib.Core.List.{List}
 use native.Mathlib.Omega.{arith}
-use borrow.Author.Tests.{ne-eqb}
-use lib.Dec.{eqb}
 use Rattle.guideline.specs.declared.rows.Row643.{Row643}
 use Rattle.guideline.specs.declared.rows.TableName.the-variants.{T643}
 use Rattle.guideline.specs.declared.view.View.{View}
@@ -14,10 +12,10 @@ use Rattle.guideline.specs.Table.{some, among, every}
 use Rattle.guideline.specs.Rows.{keyed}
 use Rattle.cells.specs.declared.Tally.{Tally}
 use Rattle.cells.specs.Lents.{shown, row-at, tally-of}
-use Rattle.cells.specs.Tally.{tallied, told}
+use Rattle.cells.specs.Tally.{told}
 use Rattle.cells.specs.Views.{narrowed}
-use Rattle.cells.proofs.Lents.{rows-told, rows-some}
-use Rattle.cells.proofs.Tallied.{tallying-none, tallying-skip, counted-once}
+use Rattle.cells.proofs.Lents.{rows-told, rows-found, rows-missed}
+use Rattle.cells.proofs.Tallied.{tallying-none, tallying-skip}
 use Rattle.keys.proofs.Answers.{narrowed-answers}
 use Rattle.filter.specs.declared.Filter.{Filter}
 use Rattle.filter.specs.Filters.{filter643}
@@ -27,19 +25,14 @@ use Rattle.dose_row.specs.Places.{passing, Missed, First}
 
 -- is there a row that passes a filter?
 module _ (l : List ℕ) (v : View) (s : Settled) (q : Filter) where
-  by-tally : some (kept l v s (filter643 q)) ≡ not (eqb (tallied (passing l v s q) (v .rows) .count) 0)
-  unfolding kept
-  by-tally = rows-some T643 l v (λ r. settled643 s r && filter643 q r) refl
-
   pub some-missed : Missed (passing l v s q) (v .rows) → some (kept l v s (filter643 q)) ≡ false
+  unfolding kept
   some-missed m =
-      let none : 0 ≡ tallied (passing l v s q) (v .rows) .count = tallying-skip (passing l v s q) (v .rows) (tallying-none (passing l v s q) (v .rows)) (omega arith) (omega arith) (λ i above. m i) .2 in
-      by-tally ∙ rw (← none)
+      rows-missed T643 l v (λ r. settled643 s r && filter643 q r) (tallying-skip (passing l v s q) (v .rows) (tallying-none (passing l v s q) (v .rows)) (omega arith) (omega arith) (λ i above. m i)) (omega arith)
 
   pub some-found : (i : ℕ) → i < v .rows → passing l v s q i ≡ true → some (kept l v s (filter643 q)) ≡ true
-  some-found i below hit =
-      let more : 0 < tallied (passing l v s q) (v .rows) .count = counted-once (passing l v s q) i (v .rows) below hit in
-      by-tally ∙ rw (ne-eqb (tallied (passing l v s q) (v .rows) .count) 0 (λ e. omega arith))
+  unfolding kept
+  some-found = rows-found T643 l v (λ r. settled643 s r && filter643 q r)
 
   module _ {r : ℕ} (k : First (passing l v s q) (v .rows) r) where
     pub first-none : r ≡ v .rows → some (kept l v s (filter643 q)) ≡ false

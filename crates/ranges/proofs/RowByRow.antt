@@ -1,22 +1,17 @@
 -- A table whose rows are tested one by one: one that is out of range is found, or all are tested. Assumes nothing.
 use Prim.Native.Nat.{ℕ, _+_, _<_, _≤_}
-use mathlib.Core.Path.{_≡_, refl, sym, _∙_, ap, subst}
+use mathlib.Core.Path.{_≡_, sym, _∙_, ap, subst}
 use mathlib.Core.Bool.{Bool, true, false, not}
 use mathlib.Core.List.{List}
-use native.Mathlib.Omega.{arith}
-use borrow.Author.Tests.{ne-eqb}
-use lib.Dec.{eqb}
 use lib.ListN.{length}
 use Rattle.guideline.specs.declared.rows.TableName.{TableName}
 use Rattle.guideline.specs.declared.view.View.{View}
 use Rattle.guideline.specs.Rows.{Row, width, sound-row}
 use Rattle.guideline.specs.Steps.{all-rows}
-use Rattle.cells.specs.declared.Tally.{Tally}
-use Rattle.cells.specs.Tally.{tallied}
 use Rattle.cells.specs.Views.{Fits}
 use Rattle.cells.specs.Lents.{shown, row-at, key-at}
-use Rattle.cells.proofs.Tallied.{counted-once, tallying-none, tallying-miss, tallying-all}
-use Rattle.cells.proofs.Lents.{rows-none}
+use Rattle.cells.proofs.Tallied.{tallying-none, tallying-miss}
+use Rattle.cells.proofs.Lents.{rows-found, rows-missed}
 use Rattle.keys.specs.Keys.{key-of}
 use Rattle.keys.specs.Rising.{rises}
 use Rattle.ranges.specs.declared.rows.Finding.the-variants.{OutOfRange, InRange}
@@ -26,16 +21,11 @@ module _ (n : TableName) (l : List ℕ) (v : View) where
   abbrev unsound-at : ℕ → Bool
   unsound-at i = not (sound-row n (row-at n l v i))
 
-  none-unsound : all-rows (sound-row n) (shown n l v) ≡ eqb (tallied unsound-at (v .rows) .count) 0
-  none-unsound = rows-none n l v (λ r. not (sound-row n r)) refl
-
   pub found-unsound : (i : ℕ) → i < v .rows → sound-row n (row-at n l v i) ≡ false → all-rows (sound-row n) (shown n l v) ≡ false
-  found-unsound i below e =
-      none-unsound
-      ∙ ne-eqb (tallied unsound-at (v .rows) .count) 0 (λ z. let k : 0 < tallied unsound-at (v .rows) .count = counted-once unsound-at i (v .rows) below (ap not e) in let y : tallied unsound-at (v .rows) .count ≡ 0 = z in omega arith)
+  found-unsound i below e = ap not (rows-found n l v (λ r. not (sound-row n r)) i below (ap not e))
 
   pub all-sound : {i : ℕ} → InRangeUpTo n l v i → v .rows ≤ i → all-rows (sound-row n) (shown n l v) ≡ true
-  all-sound none all = none-unsound ∙ ap (λ (t : Tally). eqb (t .count) 0) (sym (tallying-all unsound-at none all))
+  all-sound none all = ap not (rows-missed n l v (λ r. not (sound-row n r)) none all)
 
   -- a row more
   pub none-tested : InRangeUpTo n l v 0

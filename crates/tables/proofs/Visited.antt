@@ -1,19 +1,16 @@
 -- A turn of a loop that goes through the rows of a key, for any table. Assumes nothing.
 use Prim.Native.Nat.{ℕ, _+_, _<_, _≤_}
-use mathlib.Core.Path.{_≡_, refl, sym, _∙_, ap}
+use mathlib.Core.Path.{_≡_, sym, _∙_, ap}
 use mathlib.Core.Bool.{Bool, true, false, _&&_}
 use mathlib.Core.List.{List}
-use native.Mathlib.Omega.{arith}
 use borrow.Author.Tests.{eq-eqb, ne-eqb}
 use Rattle.guideline.specs.declared.rows.TableName.{TableName}
 use Rattle.guideline.specs.declared.view.View.{View}
 use Rattle.guideline.specs.Table.{some, among}
 use Rattle.guideline.specs.Rows.{Row, keyed}
 use Rattle.guideline.specs.Bytes.{cell}
-use Rattle.cells.specs.Tally.{tallied}
 use Rattle.cells.specs.Lents.{shown, row-at, key-at}
-use Rattle.cells.proofs.Tallied.{counted-once, tallying-all}
-use Rattle.cells.proofs.Lents.{key-read, rows-some}
+use Rattle.cells.proofs.Lents.{key-read, rows-found, rows-missed}
 use Rattle.keys.specs.Keys.{key-of, Next}
 use Rattle.keys.proofs.Visits.{visit-first, visit-hit, visit-miss}
 use Rattle.tables.specs.Visits.{hit-at, Visits}
@@ -43,11 +40,8 @@ module _ (n : TableName) (k : ℕ) (l : List ℕ) (v : View) (p : Row n → Bool
   -- such a row is there
   pub some-visited : {i count last : ℕ} → Visits n k l v p i count last → i < v .rows → {row : Row n} → row ≡ row-at n l v i → {b : Bool} → b ≡ p row → b ≡ true → some (among (keyed n k) (shown n l v) p) ≡ true
   some-visited {i} x below read passes e =
-      let hit : hit-at n k l v p i ≡ true = this-key i (x .1 below) ∙ sym (passes ∙ ap p read) ∙ e in
-      let more : 0 < tallied (hit-at n k l v p) (v .rows) .count = counted-once (hit-at n k l v p) i (v .rows) below hit in
-      rows-some n l v (λ r. keyed n k r && p r) refl ∙ rw (ne-eqb (tallied (hit-at n k l v p) (v .rows) .count) 0 (λ z. let y : tallied (hit-at n k l v p) (v .rows) .count ≡ 0 = z in omega arith))
+      rows-found n l v (λ r. keyed n k r && p r) i below (this-key i (x .1 below) ∙ sym (passes ∙ ap p read) ∙ e)
 
   -- no such row is there
   pub none-visited : {i : ℕ} → Visits n k l v p i 0 0 → v .rows ≤ i → some (among (keyed n k) (shown n l v) p) ≡ false
-  none-visited x all =
-      rows-some n l v (λ r. keyed n k r && p r) (tallying-all (hit-at n k l v p) (x .0) all)
+  none-visited x all = rows-missed n l v (λ r. keyed n k r && p r) (x .0) all
