@@ -1,9 +1,9 @@
 //! The large case: six tables of 20,000 rows, in which every entry goes through all twelve steps to 100.
 
+use cases::generate::case::{Case, Numbers};
+use cases::random::Random;
 use second::check::entry::BLANK;
 use second::check::Table::{T640, T641, T642, T643, T649, T730};
-use second::generate::case::{Case, Numbers};
-use second::random::Random;
 
 const ROWS: u64 = 20_000;
 /// Each has four rows in 641, 642 and 643: one that its entry takes, and others that the entry has to pass over.

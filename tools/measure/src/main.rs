@@ -1,4 +1,4 @@
-//! What tools/check-speed and tools/before-after measure with.
+//! What tools/measure-check and tools/measure-before-after measure with.
 
 mod large;
 mod processor;

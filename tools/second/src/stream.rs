@@ -2,7 +2,6 @@
 
 use crate::check::entry::{Entry, FIELDS};
 use crate::check::{check, Lent};
-use crate::switch::Switch;
 use std::io::{self, Read, Write};
 
 pub const HEADER: usize = 28;
@@ -47,7 +46,7 @@ pub fn parts<'b>(header: &Header, body: &'b [u8]) -> ([&'b [u8]; 6], &'b [u8]) {
 }
 
 /// One line for each entry, or the line `broken` where the stream ends inside a case or a case is too long.
-pub fn answers<S: Switch>(s: S, mut input: impl Read, mut output: impl Write) -> io::Result<()> {
+pub fn answers(mut input: impl Read, mut output: impl Write) -> io::Result<()> {
     let mut body = Vec::new();
     let mut lines = Vec::new();
     loop {
@@ -66,18 +65,18 @@ pub fn answers<S: Switch>(s: S, mut input: impl Read, mut output: impl Write) ->
             break;
         }
         lines.clear();
-        case_lines(s, &header, &body, &mut lines);
+        case_lines(&header, &body, &mut lines);
         output.write_all(&lines)?;
     }
     output.write_all(BROKEN)?;
     output.flush()
 }
 
-fn case_lines<S: Switch>(s: S, header: &Header, body: &[u8], lines: &mut Vec<u8>) {
+fn case_lines(header: &Header, body: &[u8], lines: &mut Vec<u8>) {
     let (tables, entries) = parts(header, body);
-    let lent = Lent::new(s, tables);
+    let lent = Lent::new(tables);
     for entry in entries.chunks_exact(ENTRY) {
-        check(s, &lent, &Entry::new(numbers(entry))).line(lines);
+        check(&lent, &Entry::new(numbers(entry))).line(lines);
     }
 }
 

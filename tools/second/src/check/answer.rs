@@ -1,8 +1,6 @@
 //! The eight numbers, with the test that gave them and the ways the steps went.
 
 use super::{text, Compared, Test, Ways};
-use crate::fault::Fault;
-use crate::switch::Switch;
 
 /// What the steps have chosen so far; a number not reached is 0.
 #[derive(Clone, Copy, Default)]
@@ -23,31 +21,15 @@ pub struct Answer {
 }
 
 impl Answer {
-    pub fn refused<S: Switch>(s: S, test: Test, found: &Found) -> Answer {
-        let mut basis = found.basis;
-        let mut category = found.category;
-        let mut table = test.table();
-        if s.on(Fault::BasisZeroIn113) && test.answer() == 113 {
-            basis = 0;
-        }
-        if s.on(Fault::CategoryZeroIn120) && test == Test::CategoryTooLong {
-            category = 0;
-        }
-        if s.on(Fault::TableIn113) && test.answer() == 113 {
-            table = 642;
-        }
-        if s.on(Fault::TableIn126Absent) && test.answer() == 126 {
-            table = 0;
-        }
+    pub fn refused(test: Test, found: &Found) -> Answer {
         let text = text::of_refusal(test);
-        let numbers = [test.answer(), text, table, basis, category, found.rule, 0, 0];
+        let numbers = [test.answer(), text, test.table(), found.basis, found.category, found.rule, 0, 0];
         Answer { numbers, test, ways: found.ways, compared: None }
     }
 
-    pub fn compared<S: Switch>(s: S, compared: Compared, found: &Found) -> Answer {
+    pub fn compared(compared: Compared, found: &Found) -> Answer {
         let Compared { high, low, gprisc, .. } = compared;
-        let text = text::of_compared(s, high, low, gprisc);
-        let text = if s.on(Fault::Text16WithoutNorm) && compared.limits.maximum == 0 && high == 0 { 16 } else { text };
+        let text = text::of_compared(high, low, gprisc);
         let numbers = [100, text, 0, found.basis, found.category, found.rule, high, low];
         Answer { numbers, test: Test::Compared, ways: found.ways, compared: Some(compared) }
     }

@@ -1,8 +1,6 @@
 //! The entry and its range (125).
 
 use super::test::{Side, Test};
-use crate::fault::Fault;
-use crate::switch::Switch;
 
 pub const FIELDS: usize = 20;
 
@@ -20,58 +18,31 @@ pub const DOSE_MOST: u32 = 999_999_999;
 pub const MONTHS_OFF: u32 = 0;
 pub const MONTHS_ON: u32 = 1;
 
+/// A field: its name, lowest and highest permitted number.
+type Field = (&'static str, u32, u32);
+
 /// Document 01's order.
-pub const NAMES: [&str; FIELDS] = [
-    "GPK",
-    "PRK",
-    "HPK",
-    "age",
-    "sex",
-    "weight",
-    "surface",
-    "care group",
-    "reason",
-    "ICPCTO",
-    "route",
-    "count",
-    "time unit",
-    "lowest",
-    "highest",
-    "entered unit",
-    "base unit",
-    "SRTCDE",
-    "CODE",
-    "months",
-];
-
-/// Lowest and highest permitted number of each field.
-pub const RANGES: [(u32, u32); FIELDS] = [
-    (0, CODE_MOST),
-    (1, CODE_MOST),
-    (1, CODE_MOST),
-    (0, AGE_MOST),
-    (1, 2),
-    (1, WEIGHT_MOST),
-    (1, SURFACE_MOST),
-    (2, 3),
-    (0, CODE_MOST),
-    (0, 2),
-    (0, CODE_MOST),
-    (1, COUNT_MOST),
-    (0, UNIT_MOST),
-    (1, DOSE_MOST),
-    (1, DOSE_MOST),
-    (0, UNIT_MOST),
-    (0, UNIT_MOST),
-    (0, UNIT_MOST),
-    (0, CODE_MOST),
-    (MONTHS_OFF, MONTHS_ON),
-];
-
-/// PRK, HPK, age, sex, weight, surface and months.
-pub const MAY_BE_BLANK: [bool; FIELDS] = [
-    false, true, true, true, true, true, true, false, false, false, false, false, false, false, false, false, false,
-    false, false, true,
+pub const RANGES: [Field; FIELDS] = [
+    ("GPK", 0, CODE_MOST),
+    ("PRK", 1, CODE_MOST),
+    ("HPK", 1, CODE_MOST),
+    ("age", 0, AGE_MOST),
+    ("sex", 1, 2),
+    ("weight", 1, WEIGHT_MOST),
+    ("surface", 1, SURFACE_MOST),
+    ("care group", 2, 3),
+    ("reason", 0, CODE_MOST),
+    ("ICPCTO", 0, 2),
+    ("route", 0, CODE_MOST),
+    ("count", 1, COUNT_MOST),
+    ("time unit", 0, UNIT_MOST),
+    ("lowest", 1, DOSE_MOST),
+    ("highest", 1, DOSE_MOST),
+    ("entered unit", 0, UNIT_MOST),
+    ("base unit", 0, UNIT_MOST),
+    ("SRTCDE", 0, UNIT_MOST),
+    ("CODE", 0, CODE_MOST),
+    ("months", MONTHS_OFF, MONTHS_ON),
 ];
 
 pub const GPK: usize = 0;
@@ -94,6 +65,8 @@ pub const BASE_UNIT: usize = 16;
 pub const SRTCDE: usize = 17;
 pub const CODE: usize = 18;
 pub const MONTHS: usize = 19;
+
+pub const MAY_BE_BLANK: [usize; 7] = [PRK, HPK, AGE, SEX, WEIGHT, SURFACE, MONTHS];
 
 #[derive(Clone, Copy, Debug)]
 pub struct Entry {
@@ -121,6 +94,7 @@ pub struct Entry {
 }
 
 impl Entry {
+    /// The numbers in the order of `RANGES`.
     pub fn new(n: [u32; FIELDS]) -> Entry {
         let given = |place: usize| if n[place] == BLANK { None } else { Some(n[place]) };
         Entry {
@@ -150,12 +124,12 @@ impl Entry {
 }
 
 /// 125: each field within its range or, where permitted, blank; then the two rules between fields.
-pub fn out_of_range<S: Switch>(s: S, entry: &Entry) -> Option<Test> {
+pub fn out_of_range(entry: &Entry) -> Option<Test> {
     for (place, number) in entry.numbers.into_iter().enumerate() {
-        if MAY_BE_BLANK[place] && number == BLANK {
+        if number == BLANK && MAY_BE_BLANK.contains(&place) {
             continue;
         }
-        let (low, high) = permitted(s, place);
+        let (_, low, high) = RANGES[place];
         if number < low {
             return Some(Test::Entry(place as u8, Side::Low));
         }
@@ -163,54 +137,11 @@ pub fn out_of_range<S: Switch>(s: S, entry: &Entry) -> Option<Test> {
             return Some(Test::Entry(place as u8, Side::High));
         }
     }
-    if entry.reason == 0 && entry.icpcto != 0 && !s.on(Fault::EntryIcpctoWithoutReason) {
+    if entry.reason == 0 && entry.icpcto != 0 {
         return Some(Test::Entry(ICPCTO as u8, Side::Odds));
     }
-    if entry.lowest > entry.highest && !s.on(Fault::EntryLowestAboveHighest) {
+    if entry.lowest > entry.highest {
         return Some(Test::Entry(LOWEST as u8, Side::Odds));
     }
     None
-}
-
-#[inline(always)]
-fn permitted<S: Switch>(s: S, place: usize) -> (u32, u32) {
-    let (low, high) = RANGES[place];
-    if !S::CAN_BE_WRONG {
-        return (low, high);
-    }
-    let (low, high) = s.range(None, place, low as u64, high as u64);
-    wrongly_permitted(s, place, low as u32, high as u32)
-}
-
-fn wrongly_permitted<S: Switch>(s: S, place: usize, low: u32, high: u32) -> (u32, u32) {
-    let wrong_low = [
-        (Fault::EntryPrkZero, PRK, 0),
-        (Fault::EntryHpkZero, HPK, 0),
-        (Fault::EntrySexZero, SEX, 0),
-        (Fault::EntryWeightZero, WEIGHT, 0),
-        (Fault::EntrySurfaceZero, SURFACE, 0),
-        (Fault::EntryCareOne, CARE, 1),
-        (Fault::EntryCountZero, COUNT, 0),
-        (Fault::EntryLowestZero, LOWEST, 0),
-        (Fault::EntryRouteNeeded, ROUTE, 1),
-        (Fault::EntryTimeUnitNeeded, TIME_UNIT, 1),
-    ];
-    let wrong_high = [
-        (Fault::EntryGpkAny, GPK, u32::MAX),
-        (Fault::EntryAge1080, AGE, 1_080),
-        (Fault::EntryAgeAny, AGE, u32::MAX),
-        (Fault::EntrySexThree, SEX, 3),
-        (Fault::EntryWeightAny, WEIGHT, u32::MAX),
-        (Fault::EntrySurfaceAny, SURFACE, 999_999),
-        (Fault::EntryIcpctoThree, ICPCTO, 3),
-        (Fault::EntryCountThousand, COUNT, 1_000),
-        (Fault::EntryUnitCode, TIME_UNIT, CODE_MOST),
-        (Fault::EntryDoseAny, HIGHEST, u32::MAX),
-        (Fault::EntryCodeSix, CODE, UNIT_MOST),
-        (Fault::EntryMonthsAny, MONTHS, u32::MAX),
-    ];
-    let find = |list: &[(Fault, usize, u32)], otherwise| {
-        list.iter().find(|(fault, field, _)| *field == place && s.on(*fault)).map_or(otherwise, |found| found.2)
-    };
-    (find(&wrong_low, low), find(&wrong_high, high))
 }

@@ -45,8 +45,9 @@ const F649: [Field; 4] = [
 ];
 const F730: [Field; 4] = [("SRTCDE", 0, UNIT), ("CODE", 0, CODE), ("CDHOEV", 0, CDHOEV_MOST), ("CDEENH", 0, UNIT)];
 
-/// Place of CDHOEV in 730, the one field of 64 bits.
+/// Place of CDHOEV in 730, the one field of 64 bits, and of CDEENH behind it.
 pub const CDHOEV: usize = 2;
+pub const CDEENH: usize = 3;
 
 /// Places of the low bounds in 643; each high bound stands behind its low one.
 pub const LOW_BOUNDS: [usize; 3] = [1, 5, 7];

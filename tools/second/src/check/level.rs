@@ -4,29 +4,17 @@ use super::entry::Entry;
 use super::tables::Row641;
 use super::test::Test;
 use super::ways::Level;
-use crate::fault::Fault;
-use crate::switch::{same, Switch};
 
 const BASE_LEVEL: u32 = 1;
 const OTHER_LEVEL: u32 = 2;
 
-pub fn basis<S: Switch>(s: S, t641: &[Row641], entry: &Entry) -> Result<(u32, Level), Test> {
-    let of_gpk = |row: &&Row641| row.gpkode == entry.gpk || s.on(Fault::LevelOfAnyGpk);
-    let rows: Vec<&Row641> = t641.iter().filter(of_gpk).collect();
-    if s.on(Fault::PrkLevelFirst) {
-        if let Some(taken) = at_prk(s, &rows, entry)?.1 {
-            return Ok((taken.gpdbas, Level::Prk));
-        }
-    }
-    let (hpk_tried, taken) = at_hpk(s, &rows, entry)?;
+pub fn basis(t641: &[Row641], entry: &Entry) -> Result<(u32, Level), Test> {
+    let rows: Vec<&Row641> = t641.iter().filter(|row| row.gpkode == entry.gpk).collect();
+    let (hpk_tried, taken) = at_hpk(&rows, entry)?;
     if let Some(row) = taken {
-        if s.on(Fault::PrkAskedAfterHpk) {
-            at_prk(s, &rows, entry)?;
-        }
         return Ok((row.gpdbas, Level::Hpk));
     }
-    let (prk_tried, taken) =
-        if s.on(Fault::HpkFallsToBase) && hpk_tried { (false, None) } else { at_prk(s, &rows, entry)? };
+    let (prk_tried, taken) = at_prk(&rows, entry)?;
     if let Some(row) = taken {
         return Ok((row.gpdbas, if hpk_tried { Level::PrkAfterHpk } else { Level::Prk }));
     }
@@ -36,68 +24,40 @@ pub fn basis<S: Switch>(s: S, t641: &[Row641], entry: &Entry) -> Result<(u32, Le
         (false, true) => Level::BaseAfterPrk,
         (true, true) => Level::BaseAfterBoth,
     };
-    Ok((at_base(s, &rows)?.gpdbas, level))
+    Ok((at_base(&rows)?.gpdbas, level))
 }
 
 /// Whether the level has rows, and the row taken.
 type Tried<'t> = (bool, Option<&'t Row641>);
 
-fn at_hpk<'t, S: Switch>(s: S, rows: &[&'t Row641], entry: &Entry) -> Result<Tried<'t>, Test> {
-    let at_level = |row: &&&Row641| {
-        (row.gpdcod == OTHER_LEVEL || s.on(Fault::GpdcodIgnored))
-            && (row.hpkode > 0 || s.on(Fault::HpkAskedForAnyLevel))
-    };
-    let rows: Vec<&Row641> = rows.iter().filter(at_level).copied().collect();
+fn at_hpk<'t>(rows: &[&'t Row641], entry: &Entry) -> Result<Tried<'t>, Test> {
+    let rows = keep(rows, |row| row.gpdcod == OTHER_LEVEL && row.hpkode > 0);
     if rows.is_empty() {
         return Ok((false, None));
     }
-    let hpk = match entry.hpk {
-        Some(hpk) => hpk,
-        None if s.on(Fault::HpkNeverAsked) => return Ok((true, None)),
-        None => return Err(Test::HpkMissing),
-    };
-    let taken = rows.into_iter().filter(|row| same(s, Fault::HpkIn16Bits, row.hpkode, hpk)).collect();
-    one(s, taken, Fault::FirstHpkRow, Test::HpkSeveral)
+    let hpk = entry.hpk.ok_or(Test::HpkMissing)?;
+    one(keep(&rows, |row| row.hpkode == hpk), Test::HpkSeveral)
 }
 
-fn at_prk<'t, S: Switch>(s: S, rows: &[&'t Row641], entry: &Entry) -> Result<Tried<'t>, Test> {
-    let at_level = |row: &&&Row641| {
-        row.gpdcod == OTHER_LEVEL && (row.hpkode == 0 || s.on(Fault::HpkRowsAtPrkLevel)) && row.prkode > 0
-    };
-    let rows: Vec<&Row641> = rows.iter().filter(at_level).copied().collect();
+fn at_prk<'t>(rows: &[&'t Row641], entry: &Entry) -> Result<Tried<'t>, Test> {
+    let rows = keep(rows, |row| row.gpdcod == OTHER_LEVEL && row.hpkode == 0 && row.prkode > 0);
     if rows.is_empty() {
         return Ok((false, None));
     }
-    let prk = match entry.prk {
-        Some(prk) => prk,
-        None if s.on(Fault::PrkNeverAsked) => return Ok((true, None)),
-        None => return Err(Test::PrkMissing),
-    };
-    let taken = rows.into_iter().filter(|row| same(s, Fault::PrkIn16Bits, row.prkode, prk)).collect();
-    one(s, taken, Fault::FirstPrkRow, Test::PrkSeveral)
+    let prk = entry.prk.ok_or(Test::PrkMissing)?;
+    one(keep(&rows, |row| row.prkode == prk), Test::PrkSeveral)
 }
 
-fn at_base<'t, S: Switch>(s: S, rows: &[&'t Row641]) -> Result<&'t Row641, Test> {
-    let at_level = |row: &&&Row641| {
-        if s.on(Fault::BaseOnlyWithoutCodes) {
-            return row.gpdcod == BASE_LEVEL && row.prkode == 0 && row.hpkode == 0;
-        }
-        if s.on(Fault::BaseByCodesZero) {
-            return row.prkode == 0 && row.hpkode == 0;
-        }
-        row.gpdcod == BASE_LEVEL
-    };
-    let taken = rows.iter().filter(at_level).copied().collect();
-    one(s, taken, Fault::FirstBaseRow, Test::BaseLevelSeveral)?.1.ok_or(Test::BaseLevelAbsent)
+fn at_base<'t>(rows: &[&'t Row641]) -> Result<&'t Row641, Test> {
+    let rows = keep(rows, |row| row.gpdcod == BASE_LEVEL);
+    one(rows, Test::BaseLevelSeveral)?.1.ok_or(Test::BaseLevelAbsent)
 }
 
-fn one<'t, S: Switch>(s: S, mut taken: Vec<&'t Row641>, first: Fault, several: Test) -> Result<Tried<'t>, Test> {
-    if s.on(first) {
-        taken.truncate(1);
-    }
-    if s.on(Fault::EqualLevelRowsOnce) {
-        taken.dedup();
-    }
+fn keep<'t>(rows: &[&'t Row641], test: impl Fn(&Row641) -> bool) -> Vec<&'t Row641> {
+    rows.iter().copied().filter(|row| test(row)).collect()
+}
+
+fn one(taken: Vec<&Row641>, several: Test) -> Result<Tried<'_>, Test> {
     match taken[..] {
         [] => Ok((true, None)),
         [row] => Ok((true, Some(row))),

@@ -1,10 +1,8 @@
 //! The lent tables: rows of little-endian numbers, 32 bits each, CDHOEV in 64.
 
-use super::fields::CDHOEV;
+use super::fields::{CDEENH, CDHOEV};
 use super::shape::{misshapen, out_of_range};
 use super::test::{Table, Test};
-use crate::fault::Fault;
-use crate::switch::Switch;
 
 pub struct Row640 {
     pub gpkode: u32,
@@ -12,7 +10,6 @@ pub struct Row640 {
     pub gprisc: u32,
 }
 
-#[derive(PartialEq)]
 pub struct Row641 {
     pub gpkode: u32,
     pub prkode: u32,
@@ -21,7 +18,6 @@ pub struct Row641 {
     pub gpdbas: u32,
 }
 
-#[derive(PartialEq)]
 pub struct Row642 {
     pub gpdbas: u32,
     pub gpdzco: u32,
@@ -31,7 +27,6 @@ pub struct Row642 {
     pub gpdcat: u32,
 }
 
-#[derive(PartialEq)]
 pub struct Row643 {
     pub gpdcat: u32,
     pub gpdlfm: u32,
@@ -45,7 +40,7 @@ pub struct Row643 {
     pub gpddnr: u32,
 }
 
-#[derive(Clone, Copy, PartialEq, Debug)]
+#[derive(Clone, Copy, Debug)]
 pub struct Row649 {
     pub gpddnr: u32,
     pub minimum: u32,
@@ -53,7 +48,6 @@ pub struct Row649 {
     pub absolute: u32,
 }
 
-#[derive(PartialEq)]
 pub struct Row730 {
     pub srtcde: u32,
     pub code: u32,
@@ -75,17 +69,17 @@ pub struct Lent {
 
 impl Lent {
     /// The six tables' bytes in the order 640, 641, 642, 643, 649, 730.
-    pub fn new<S: Switch>(s: S, bytes: [&[u8]; 6]) -> Lent {
+    pub fn new(bytes: [&[u8]; 6]) -> Lent {
         let [b640, b641, b642, b643, b649, b730] = bytes;
         Lent {
             t640: rows(b640, Table::T640).map(row640).collect(),
             t641: rows(b641, Table::T641).map(row641).collect(),
             t642: rows(b642, Table::T642).map(row642).collect(),
-            t643: rows(b643, Table::T643).map(|row| row643(s, row)).collect(),
+            t643: rows(b643, Table::T643).map(row643).collect(),
             t649: rows(b649, Table::T649).map(row649).collect(),
             t730: rows(b730, Table::T730).map(row730).collect(),
-            misshapen: misshapen(s, bytes),
-            out_of_range: out_of_range(s, bytes),
+            misshapen: misshapen(bytes),
+            out_of_range: out_of_range(bytes),
         }
     }
 }
@@ -94,81 +88,56 @@ pub fn rows(bytes: &[u8], table: Table) -> std::slice::ChunksExact<'_, u8> {
     bytes.chunks_exact(table.row_bytes())
 }
 
-fn number(row: &[u8], place: usize) -> u32 {
-    u32::from_le_bytes([row[place], row[place + 1], row[place + 2], row[place + 3]])
-}
-
-fn number_64(row: &[u8], place: usize) -> u64 {
-    number(row, place) as u64 | (number(row, place + 4) as u64) << 32
+fn number(row: &[u8], byte: usize) -> u64 {
+    u32::from_le_bytes([row[byte], row[byte + 1], row[byte + 2], row[byte + 3]]) as u64
 }
 
 /// The number of a field: in 730, CDHOEV takes eight bytes and CDEENH stands behind it.
 pub fn cell(table: Table, row: &[u8], place: usize) -> u64 {
     match (table, place) {
-        (Table::T730, CDHOEV) => number_64(row, 8),
-        (Table::T730, 3) => number(row, 16) as u64,
-        _ => number(row, 4 * place) as u64,
+        (Table::T730, CDHOEV) => number(row, 8) | number(row, 12) << 32,
+        (Table::T730, CDEENH) => number(row, 16),
+        _ => number(row, 4 * place),
     }
 }
 
 fn row640(row: &[u8]) -> Row640 {
-    Row640 { gpkode: number(row, 0), gpdgst: number(row, 4), gprisc: number(row, 8) }
+    let cell = |place: usize| cell(Table::T640, row, place) as u32;
+    Row640 { gpkode: cell(0), gpdgst: cell(1), gprisc: cell(2) }
 }
 
 fn row641(row: &[u8]) -> Row641 {
-    Row641 {
-        gpkode: number(row, 0),
-        prkode: number(row, 4),
-        hpkode: number(row, 8),
-        gpdcod: number(row, 12),
-        gpdbas: number(row, 16),
-    }
+    let cell = |place: usize| cell(Table::T641, row, place) as u32;
+    Row641 { gpkode: cell(0), prkode: cell(1), hpkode: cell(2), gpdcod: cell(3), gpdbas: cell(4) }
 }
 
 fn row642(row: &[u8]) -> Row642 {
-    Row642 {
-        gpdbas: number(row, 0),
-        gpdzco: number(row, 4),
-        icpcnr1: number(row, 8),
-        icpcto: number(row, 12),
-        gpktwg: number(row, 16),
-        gpdcat: number(row, 20),
-    }
+    let cell = |place: usize| cell(Table::T642, row, place) as u32;
+    Row642 { gpdbas: cell(0), gpdzco: cell(1), icpcnr1: cell(2), icpcto: cell(3), gpktwg: cell(4), gpdcat: cell(5) }
 }
 
-fn row643<S: Switch>(s: S, row: &[u8]) -> Row643 {
-    let mut read = Row643 {
-        gpdcat: number(row, 0),
-        gpdlfm: number(row, 4),
-        gpdlfx: number(row, 8),
-        gpdfaa: number(row, 12),
-        gpdfee: number(row, 16),
-        gpdkgm: number(row, 20),
-        gpdkgx: number(row, 24),
-        surface_low: number(row, 28),
-        surface_high: number(row, 32),
-        gpddnr: number(row, 36),
-    };
-    if s.on(Fault::WeightOneColumnOver) {
-        (read.gpdkgm, read.gpdkgx) = (read.gpdkgx, read.surface_low);
+fn row643(row: &[u8]) -> Row643 {
+    let cell = |place: usize| cell(Table::T643, row, place) as u32;
+    Row643 {
+        gpdcat: cell(0),
+        gpdlfm: cell(1),
+        gpdlfx: cell(2),
+        gpdfaa: cell(3),
+        gpdfee: cell(4),
+        gpdkgm: cell(5),
+        gpdkgx: cell(6),
+        surface_low: cell(7),
+        surface_high: cell(8),
+        gpddnr: cell(9),
     }
-    if s.on(Fault::WeightOneColumnBack) {
-        (read.gpdkgm, read.gpdkgx) = (read.gpdfee, read.gpdkgm);
-    }
-    if s.on(Fault::WeightAndSurfaceSwapped) {
-        (read.gpdkgm, read.gpdkgx, read.surface_low, read.surface_high) =
-            (read.surface_low, read.surface_high, read.gpdkgm, read.gpdkgx);
-    }
-    if s.on(Fault::CountAndUnitSwapped) {
-        (read.gpdfaa, read.gpdfee) = (read.gpdfee, read.gpdfaa);
-    }
-    read
 }
 
 fn row649(row: &[u8]) -> Row649 {
-    Row649 { gpddnr: number(row, 0), minimum: number(row, 4), maximum: number(row, 8), absolute: number(row, 12) }
+    let cell = |place: usize| cell(Table::T649, row, place) as u32;
+    Row649 { gpddnr: cell(0), minimum: cell(1), maximum: cell(2), absolute: cell(3) }
 }
 
 fn row730(row: &[u8]) -> Row730 {
-    Row730 { srtcde: number(row, 0), code: number(row, 4), cdhoev: number_64(row, 8), cdeenh: number(row, 16) }
+    let cell = |place: usize| cell(Table::T730, row, place);
+    Row730 { srtcde: cell(0) as u32, code: cell(1) as u32, cdhoev: cell(CDHOEV), cdeenh: cell(CDEENH) as u32 }
 }

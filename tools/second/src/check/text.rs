@@ -1,8 +1,6 @@
 //! Text numbers of document 001.
 
 use super::Test;
-use crate::fault::Fault;
-use crate::switch::Switch;
 
 /// The text of every answer but 100.
 pub fn of_refusal(test: Test) -> u32 {
@@ -23,22 +21,14 @@ pub fn of_refusal(test: Test) -> u32 {
 }
 
 /// The text of 100 (001, 4.6): high's text if both speak; a narrow range has its own texts for high.
-pub fn of_compared<S: Switch>(s: S, high: u32, low: u32, gprisc: u32) -> u32 {
-    let narrow = gprisc == 1 && !s.on(Fault::NarrowRangeIgnored);
-    let high_text = match (high, narrow) {
-        (0, _) => 0,
+pub fn of_compared(high: u32, low: u32, gprisc: u32) -> u32 {
+    let narrow = gprisc == 1;
+    let low_text = if low == 1 { 2 } else { 0 };
+    match (high, narrow) {
+        (0, _) => low_text,
         (1, false) => 1,
         (1, true) => 5,
         (_, false) => 3,
         (_, true) => 6,
-    };
-    let low_text = if low == 1 { 2 } else { 0 };
-    if s.on(Fault::LowTextFirst) && low == 1 {
-        return low_text;
-    }
-    if high == 0 {
-        low_text
-    } else {
-        high_text
     }
 }

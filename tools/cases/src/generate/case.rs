@@ -1,0 +1,130 @@
+//! A case under construction: six tables of numbers, odd bytes behind them, and entries.
+
+use crate::random::Random;
+use second::check::entry::FIELDS;
+use second::check::fields::CDHOEV;
+use second::check::tables::cell;
+use second::check::Table;
+use second::stream::{numbers, parts, Header, ENTRY, HEADER};
+
+pub type Numbers = [u32; FIELDS];
+
+#[derive(Clone)]
+pub struct Case {
+    pub tables: [Rows; 6],
+    pub entries: Vec<Numbers>,
+}
+
+/// The rows of one table, and the bytes behind its last whole row.
+#[derive(Clone)]
+pub struct Rows {
+    pub table: Table,
+    pub cells: Vec<u64>,
+    pub tail: Vec<u8>,
+}
+
+impl Rows {
+    pub fn width(&self) -> usize {
+        self.table.fields().len()
+    }
+
+    pub fn count(&self) -> usize {
+        self.cells.len() / self.width()
+    }
+
+    pub fn push(&mut self, row: &[u64]) {
+        assert_eq!(row.len(), self.width());
+        self.cells.extend(row);
+    }
+
+    pub fn row(&mut self, place: usize) -> &mut [u64] {
+        let width = self.width();
+        &mut self.cells[place * width..(place + 1) * width]
+    }
+
+    pub fn double(&mut self, place: usize) {
+        let row = self.row(place).to_vec();
+        self.push(&row);
+    }
+
+    /// Keeps the rows that pass.
+    pub fn retain(&mut self, keep: impl Fn(&[u64]) -> bool) {
+        let width = self.width();
+        self.cells = self.cells.chunks_exact(width).filter(|row| keep(row)).flatten().copied().collect();
+    }
+
+    pub fn shuffle(&mut self, random: &mut Random) {
+        let width = self.width();
+        let mut rows: Vec<Vec<u64>> = self.cells.chunks_exact(width).map(|row| row.to_vec()).collect();
+        random.shuffle(&mut rows);
+        self.cells = rows.concat();
+    }
+
+    pub fn length(&self) -> usize {
+        self.count() * self.table.row_bytes() + self.tail.len()
+    }
+
+    fn bytes(&self, out: &mut Vec<u8>) {
+        for row in self.cells.chunks_exact(self.width()) {
+            for (place, cell) in row.iter().enumerate() {
+                if self.table == Table::T730 && place == CDHOEV {
+                    out.extend(cell.to_le_bytes());
+                } else {
+                    out.extend((*cell as u32).to_le_bytes());
+                }
+            }
+        }
+        out.extend(&self.tail);
+    }
+}
+
+impl Case {
+    pub fn empty() -> Case {
+        Case { tables: Table::ALL.map(|table| Rows { table, cells: vec![], tail: vec![] }), entries: vec![] }
+    }
+
+    pub fn rows(&mut self, table: Table) -> &mut Rows {
+        &mut self.tables[table as usize]
+    }
+
+    pub fn push(&mut self, table: Table, row: &[u64]) {
+        self.rows(table).push(row);
+    }
+
+    pub fn shuffle(&mut self, random: &mut Random) {
+        self.tables.iter_mut().for_each(|rows| rows.shuffle(random));
+    }
+
+    /// The case as it stands in the stream.
+    pub fn write(&self, out: &mut Vec<u8>) {
+        for rows in &self.tables {
+            out.extend((rows.length() as u32).to_le_bytes());
+        }
+        out.extend((self.entries.len() as u32).to_le_bytes());
+        self.tables.iter().for_each(|rows| rows.bytes(out));
+        for entry in &self.entries {
+            entry.iter().for_each(|number| out.extend(number.to_le_bytes()));
+        }
+    }
+
+    pub fn bytes(&self) -> Vec<u8> {
+        let mut out = vec![];
+        self.write(&mut out);
+        out
+    }
+
+    /// The case at the front of a stream, if it is whole.
+    pub fn take(stream: &mut &[u8]) -> Option<Case> {
+        let header = Header::new(stream.first_chunk::<HEADER>()?);
+        let (case, behind) = stream.split_at_checked(header.case() as usize)?;
+        *stream = behind;
+        let (tables, entries) = parts(&header, &case[HEADER..]);
+        let read = |table: Table| {
+            let rows = tables[table as usize].chunks_exact(table.row_bytes());
+            let tail = rows.remainder().to_vec();
+            let cells = rows.flat_map(|row| (0..table.fields().len()).map(|place| cell(table, row, place))).collect();
+            Rows { table, cells, tail }
+        };
+        Some(Case { tables: Table::ALL.map(read), entries: entries.chunks_exact(ENTRY).map(numbers).collect() })
+    }
+}

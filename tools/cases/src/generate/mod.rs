@@ -1,0 +1,172 @@
+//! The seeded generator of cases: the same seed and number give the same case.
+
+mod breakers;
+pub mod calls;
+pub mod case;
+pub mod chains;
+mod directed;
+pub mod full;
+mod heavy;
+mod model;
+pub mod order;
+mod plain;
+pub mod proof_table;
+pub mod records;
+mod space;
+mod spread;
+mod vary;
+
+use crate::random::Random;
+use case::Case;
+
+/// Long tables come once in so many cases.
+const ROUND: u64 = 100_000;
+
+/// The cases of the first round that have long tables.
+pub const LONG_CASES: std::ops::RangeInclusive<u64> = 1..=heavy::VARIANTS as u64;
+/// Those of 640: 65,535 rows, and one more.
+pub const FULL_640: u64 = 1;
+pub const TOO_LONG_640: u64 = 7;
+
+/// The cases of the first round that get a category of 512 or 513 rows.
+pub const FULL_CASES: std::ops::Range<u64> =
+    heavy::VARIANTS as u64 + 1..heavy::VARIANTS as u64 + 1 + full::VARIANTS as u64;
+
+/// Case `number` of the run: K1 to K15 first, long tables next, then directed and plain cases in turn, the first of
+/// them with a full category besides; their rows as they were made, or in the order of their keys.
+pub fn case(seed: u64, number: u64) -> Case {
+    let mut case = made(seed, number);
+    match number % ROUND {
+        0 => {}
+        place if FULL_CASES.contains(&place) => {
+            full::add(&mut case, (place - FULL_CASES.start) as usize, &mut ordering(seed, number));
+        }
+        place if LONG_CASES.contains(&place) => long_in_order(&mut case, &mut ordering(seed, number)),
+        _ => put_in_order(&mut case, &mut ordering(seed, number)),
+    }
+    case
+}
+
+/// As `case`, without long tables and full categories.
+pub fn light_case(seed: u64, number: u64) -> Case {
+    let mut case = light_made(seed, number);
+    put_in_order(&mut case, &mut ordering(seed, number));
+    case
+}
+
+/// A third of the cases by key, a sixth nearly. A twelfth get more keys to look for, and of these more are nearly so:
+/// whatever row is moved, some entry needs it.
+fn put_in_order(case: &mut Case, r: &mut Random) {
+    use order::Ordered::{AsMade, ByKey, Nearly};
+    let mut ways = [ByKey, ByKey, Nearly, AsMade, AsMade, AsMade];
+    if r.below(12) == 0 {
+        chains::add(case, r);
+        ways = [ByKey, Nearly, Nearly, Nearly, Nearly, AsMade];
+    }
+    let ordered = r.pick(&ways);
+    order::order(case, r, ordered);
+}
+
+/// Half of the long tables by key.
+fn long_in_order(case: &mut Case, r: &mut Random) {
+    let ordered = r.pick(&[order::Ordered::AsMade, order::Ordered::ByKey]);
+    order::order(case, r, ordered);
+}
+
+/// Another stream than the one that makes the case, so that what is made stays the same.
+fn ordering(seed: u64, number: u64) -> Random {
+    Random::of_case(seed ^ 0x6b65_7973, number)
+}
+
+/// Case `number` as it was made: what is stored rests on it.
+pub fn made(seed: u64, number: u64) -> Case {
+    let r = &mut Random::of_case(seed, number);
+    let place = number % ROUND;
+    if place == 0 {
+        return proof_table::k_case();
+    }
+    if LONG_CASES.contains(&place) {
+        return heavy::heavy(place as usize - 1, r);
+    }
+    light(r, number)
+}
+
+/// As `made`, without long tables.
+pub fn light_made(seed: u64, number: u64) -> Case {
+    light(&mut Random::of_case(seed, number), number)
+}
+
+fn light(r: &mut Random, number: u64) -> Case {
+    let mut case =
+        if number.is_multiple_of(2) { directed::directed((number / 2) as usize, r) } else { plain::plain(r) };
+    if r.percent(20) {
+        spread::spread(&mut case);
+    }
+    case
+}
+
+#[cfg(test)]
+mod tests {
+    use super::*;
+    use crate::run::answers_of;
+    use second::check::{check, Entry, Lent};
+    use second::stream::{parts, Header, HEADER};
+
+    /// The directed cases rest on this: an unchanged model is compared.
+    #[test]
+    fn a_model_is_compared() {
+        for number in 0..5_000 {
+            let case = model::model(&mut Random::of_case(9, number));
+            let bytes = case.bytes();
+            let header = Header::new(bytes.first_chunk().expect("a header"));
+            let lent = Lent::new(parts(&header, &bytes[HEADER..]).0);
+            let answer = check(&lent, &Entry::new(case.entries[0]));
+            assert_eq!(answer.numbers[0], 100, "model {number}: {:?}", answer.test);
+        }
+    }
+
+    fn numbers(case: &Case) -> Vec<[u32; 8]> {
+        answers_of(case).iter().map(|answer| answer.numbers).collect()
+    }
+
+    /// What is done to a case as it was made leaves its lines as they are.
+    #[test]
+    fn the_order_of_rows_changes_no_answer() {
+        let mut ordered = 0;
+        for number in 0..3_000 {
+            let (made, case) = (made(8, number), case(8, number));
+            let lines = numbers(&made);
+            assert_eq!(numbers(&case)[..lines.len()], lines, "case {number}");
+            ordered += (made.bytes() != case.bytes()) as u64;
+        }
+        // Half of them, and those that get more keys.
+        assert!((1_400..1_800).contains(&ordered), "{ordered}");
+    }
+
+    /// By steps 7 and 11 of document 01.
+    #[test]
+    fn a_full_category_is_refused_or_compared() {
+        let key = full::KEY as u32;
+        let expected =
+            [[123, 0, 643, key, key, 0, 0, 0], [100, 0, 0, key, key, key, 0, 0], [120, 0, 643, key, key, 0, 0, 0]];
+        for seed in 0..20 {
+            for number in FULL_CASES {
+                let answers = numbers(&case(seed, number));
+                assert_eq!(
+                    answers.last(),
+                    Some(&expected[(number - FULL_CASES.start) as usize % 3]),
+                    "{seed} {number}"
+                );
+            }
+        }
+    }
+
+    #[test]
+    fn the_same_seed_gives_the_same_cases() {
+        for number in [0, 14, 15, 100, 101, 3_000] {
+            assert_eq!(case(5, number).bytes(), case(5, number).bytes());
+        }
+        assert_ne!(case(5, 101).bytes(), case(6, 101).bytes());
+        assert_ne!(case(5, 101).bytes(), case(5, 103).bytes());
+    }
+}

@@ -1,0 +1,90 @@
+//! Document 01's proof table, with K1 to K15 and the answers it gives.
+
+use super::case::{Case, Numbers};
+use second::check::entry::*;
+use second::check::Table;
+
+const ROWS_640: [[u64; 3]; 2] = [[103_136, 3, 0], [900_001, 2, 1]];
+const ROWS_641: [[u64; 5]; 3] = [[103_136, 0, 0, 1, 1500], [900_001, 0, 0, 1, 1600], [900_001, 7001, 0, 2, 1601]];
+const ROWS_642: [[u64; 6]; 3] =
+    [[1500, 3, 17_752, 0, 0, 33_784], [1500, 2, 17_752, 0, 0, 33_790], [1500, 3, 5000, 0, 0, 33_785]];
+const ROWS_643: [[u64; 10]; 5] = [
+    [33_784, 216_000, 999_999, 2, 19, 70_000, 80_000, 0, 999_999, 1],
+    [33_784, 216_000, 999_999, 2, 19, 0, 70_000, 0, 999_999, 2],
+    [33_784, 72_000, 216_000, 1, 19, 0, 999_999, 0, 999_999, 3],
+    [33_785, 216_000, 999_999, 1, 19, 0, 999_999, 0, 999_999, 4],
+    [33_790, 0, 999_999, 2, 19, 0, 999_999, 0, 999_999, 5],
+];
+const ROWS_649: [[u64; 4]; 5] =
+    [[1, 500, 2000, 3000], [2, 0, 1500, 0], [3, 0, 1000, 1500], [4, 0, 1000, 0], [5, 0, 4000, 6000]];
+
+pub fn tables() -> Case {
+    let mut case = Case::empty();
+    ROWS_640.iter().for_each(|row| case.push(Table::T640, row));
+    ROWS_641.iter().for_each(|row| case.push(Table::T641, row));
+    ROWS_642.iter().for_each(|row| case.push(Table::T642, row));
+    ROWS_643.iter().for_each(|row| case.push(Table::T643, row));
+    ROWS_649.iter().for_each(|row| case.push(Table::T649, row));
+    case
+}
+
+pub fn k1() -> Numbers {
+    let mut entry = [0; FIELDS];
+    for blank in [PRK, HPK, SEX, SURFACE, MONTHS] {
+        entry[blank] = BLANK;
+    }
+    entry[GPK] = 103_136;
+    entry[AGE] = 240;
+    entry[WEIGHT] = 75_000;
+    entry[CARE] = 3;
+    entry[COUNT] = 2;
+    entry[TIME_UNIT] = 19;
+    entry[LOWEST] = 2_000;
+    entry[HIGHEST] = 2_000;
+    entry[ENTERED_UNIT] = 233;
+    entry[BASE_UNIT] = 233;
+    entry
+}
+
+/// A K case: its name, its changes from K1, and the eight numbers document 01 gives.
+pub type K = (&'static str, &'static [(usize, u32)], [u32; 8]);
+
+pub const K: [K; 22] = [
+    ("K1", &[], [100, 0, 0, 1500, 33_784, 1, 0, 0]),
+    ("K2", &[(LOWEST, 2_001), (HIGHEST, 2_001)], [100, 1, 0, 1500, 33_784, 1, 1, 0]),
+    ("K3, 3,000", &[(LOWEST, 3_000), (HIGHEST, 3_000)], [100, 1, 0, 1500, 33_784, 1, 1, 0]),
+    ("K3, 3,001", &[(LOWEST, 3_001), (HIGHEST, 3_001)], [100, 3, 0, 1500, 33_784, 1, 2, 0]),
+    ("K4", &[(LOWEST, 499), (HIGHEST, 3_001)], [100, 3, 0, 1500, 33_784, 1, 2, 1]),
+    ("K5", &[(WEIGHT, BLANK)], [105, 10, 0, 1500, 33_784, 0, 0, 0]),
+    ("K6", &[(WEIGHT, 70_000)], [123, 0, 643, 1500, 33_784, 0, 0, 0]),
+    ("K7", &[(WEIGHT, 80_001)], [118, 14, 0, 1500, 33_784, 0, 0, 0]),
+    ("K8", &[(GPK, 900_001), (AGE, BLANK)], [101, 12, 0, 0, 0, 0, 0, 0]),
+    ("K9", &[(AGE, 1_080)], [100, 0, 0, 1500, 33_784, 1, 0, 0]),
+    ("K10", &[(AGE, 216), (COUNT, 1)], [100, 3, 0, 1500, 33_784, 3, 2, 0]),
+    ("K11, count", &[(COUNT, 3)], [115, 24, 0, 1500, 33_784, 0, 0, 0]),
+    ("K11, unit", &[(TIME_UNIT, 46)], [116, 25, 0, 1500, 33_784, 0, 0, 0]),
+    ("K11, both", &[(COUNT, 3), (TIME_UNIT, 46)], [117, 8, 0, 1500, 33_784, 0, 0, 0]),
+    ("K12, sex 1", &[(GPK, 900_001), (SEX, 1)], [112, 7, 0, 0, 0, 0, 0, 0]),
+    ("K12, sex 2", &[(GPK, 900_001), (SEX, 2)], [104, 16, 0, 0, 0, 0, 0, 0]),
+    ("K13", &[(CARE, 2), (WEIGHT, BLANK)], [100, 0, 0, 1500, 33_790, 5, 0, 0]),
+    ("K14", &[(REASON, 5_000), (COUNT, 1)], [100, 1, 0, 1500, 33_785, 4, 1, 0]),
+    ("K15, reason 6000", &[(REASON, 6_000)], [100, 0, 0, 1500, 33_784, 1, 0, 0]),
+    ("K15, care 2", &[(REASON, 5_000), (CARE, 2)], [100, 0, 0, 1500, 33_790, 5, 0, 0]),
+    ("K15, care 2, weight blank", &[(REASON, 5_000), (CARE, 2), (WEIGHT, BLANK)], [100, 0, 0, 1500, 33_790, 5, 0, 0]),
+    ("K13, weight known", &[(CARE, 2)], [100, 0, 0, 1500, 33_790, 5, 0, 0]),
+];
+
+pub fn changed(changes: &[(usize, u32)]) -> Numbers {
+    let mut entry = k1();
+    for (place, number) in changes {
+        entry[*place] = *number;
+    }
+    entry
+}
+
+/// The proof table with all K cases as its entries.
+pub fn k_case() -> Case {
+    let mut case = tables();
+    case.entries = K.iter().map(|k| changed(k.1)).collect();
+    case
+}

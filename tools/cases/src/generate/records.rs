@@ -1,0 +1,87 @@
+//! Unit files.
+
+use crate::random::Random;
+use second::record::{write, Unit, RECORD};
+
+/// A file of good and damaged records.
+pub fn unit_file(seed: u64, number: u64) -> Vec<u8> {
+    let r = &mut Random::of_case(seed, number);
+    let mut file = vec![];
+    for _ in 0..r.below(12) {
+        file.extend(record(r));
+        file.extend(end(r));
+    }
+    if r.percent(40) {
+        file.extend(record(r));
+    }
+    file
+}
+
+/// Mostly CR LF.
+fn end(r: &mut Random) -> &'static [u8] {
+    match r.below(20) {
+        0 => b"\n",
+        1 => b"\r",
+        2 => b"\r\r\n",
+        3 => b"\r\n\r\n",
+        4 => b"\n\r\n",
+        5 => b"\r\n\n",
+        _ => b"\r\n",
+    }
+}
+
+/// A number of at most `most`, often at an end.
+pub fn number(r: &mut Random, most: u64) -> u64 {
+    let any = r.below(most + 1);
+    let small = r.below(most.min(1_500) + 1);
+    r.pick(&[0, 1, most, any, any, small, 10.min(most), 1_000.min(most), most - 1])
+}
+
+pub fn good(r: &mut Random) -> [u8; RECORD] {
+    let unit = Unit {
+        mutation: r.below(4) as u32,
+        srtcde: number(r, 999_999) as u32,
+        code: number(r, 99_999_999) as u32,
+        cdhoev: number(r, 999_999_999_999),
+        cdeenh: number(r, 999_999) as u32,
+    };
+    let mut record = [0; RECORD];
+    write::write(&unit, &mut record, 0).expect("numbers within the file's widths");
+    record
+}
+
+/// Places in a record: the ends of each part, or any.
+fn place(r: &mut Random) -> usize {
+    let any = r.below(RECORD as u64) as usize;
+    r.pick(&[0, 3, 4, 5, 8, 9, 14, 15, 22, 23, 34, 35, 38, 39, 44, 45, 63, any])
+}
+
+/// A record, good or damaged.
+pub fn record(r: &mut Random) -> Vec<u8> {
+    let mut record = good(r).to_vec();
+    match r.below(16) {
+        0 => record.truncate(r.below(RECORD as u64) as usize),
+        1 => record.truncate(RECORD - 1),
+        2 => record.push(b' '),
+        3 => record.extend(vec![b'x'; r.between(1, 200) as usize]),
+        4 => record.clear(),
+        5 => record[4] = b'0' + r.between(4, 9) as u8,
+        6 => record[4] = r.pick(b" /:x\t"),
+        7..=10 => damage(r, &mut record),
+        11 => {
+            damage(r, &mut record);
+            damage(r, &mut record);
+        }
+        12 => {
+            record[4] = b'9';
+            damage(r, &mut record);
+        }
+        _ => {}
+    }
+    record
+}
+
+fn damage(r: &mut Random, record: &mut [u8]) {
+    let any = r.below(256) as u8;
+    record[place(r)] = r.pick(&[b' ', b'/', b':', b'x', b'\t', b'0', b'9', b'\r', b'\n', any]);
+}

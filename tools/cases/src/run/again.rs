@@ -1,0 +1,23 @@
+//! An input, such as that of a difference, compared again.
+
+use super::difference::both;
+use super::smallest::{differing, unit_file::UnitFile, Piece};
+use crate::generate::{calls::CallCase, case::Case};
+
+/// Compares a program with the second program on an input; the difference is an error.
+pub fn again(of: &str, program: &str, input: &[u8]) -> Result<(), String> {
+    match of {
+        Case::OF => pieces::<Case>(program, input),
+        UnitFile::OF => pieces::<UnitFile>(program, input),
+        CallCase::OF => pieces::<CallCase>(program, input),
+        _ => Err(format!("{of}: neither answers nor units nor calls")),
+    }
+}
+
+fn pieces<P: Piece>(program: &str, input: &[u8]) -> Result<(), String> {
+    let pieces = P::read(input).ok_or(format!("the input is no whole stream of {}", P::NAME))?;
+    match differing(program, &pieces)?.first() {
+        Some(place) => Err(format!("{program} differs\n{}", both(program, &pieces[*place])?.trim_end())),
+        None => Ok(()),
+    }
+}

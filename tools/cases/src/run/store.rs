@@ -1,0 +1,142 @@
+//! Stored vectors: a program's input and the output this program gives.
+
+use super::compare::input;
+use super::smallest::unit_file::UnitFile;
+use super::{answers_of_bytes, edges};
+use crate::generate::calls::{call_case, stream as stream_of, CallCase};
+use crate::generate::case::Case;
+use crate::generate::order::Order;
+use crate::generate::{self, chains, full, proof_table, FULL_640, TOO_LONG_640};
+use crate::random::Random;
+use second::check::Table;
+use second::record::calls::{calls as call_lines, Call, BYTES_MOST};
+use second::record::list::unit_list;
+use second::stream::{BROKEN, HEADER};
+use std::{fs, io, path::Path};
+
+pub const SEED: u64 = 730;
+/// So many cases are stored before those that look for keys.
+pub const CASES: usize = 3_500;
+/// Rows of the longest table of those whose keys are looked for one by one.
+const LENGTHS: u64 = 6;
+/// Numbers of cases, and of cases of calls, that showed something new of SEED's first 12,000, in the coverage or by
+/// telling a wrong version that none before told.
+const CHOSEN_CASES: &str = include_str!("../../stored/cases");
+const CHOSEN_CALLS: &str = include_str!("../../stored/calls");
+/// The rest is filled up with cases no longer than this, since all of them stand in the repository.
+const FILLING_BYTES: usize = 1_000;
+const UNIT_FILES: u64 = 400;
+
+/// K1 to K15 first; a table that is full and one that is too long; the chosen cases; others.
+/// Behind them the cases that look for keys, added later: those before stay as they were.
+pub fn cases() -> Vec<Case> {
+    let mut cases = first_cases();
+    cases.extend(key_cases());
+    cases
+}
+
+fn first_cases() -> Vec<Case> {
+    let mut cases = vec![proof_table::k_case(), generate::made(SEED, FULL_640), generate::made(SEED, TOO_LONG_640)];
+    let chosen = numbers(CHOSEN_CASES);
+    let made = |number: &u64| generate::light_made(SEED, *number);
+    cases.extend(chosen.iter().map(made));
+    let others = (0..).filter(|number| !chosen.contains(number)).map(|number| made(&number));
+    let room = CASES - cases.len();
+    cases.extend(others.filter(|case| case.bytes().len() <= FILLING_BYTES).take(room));
+    cases
+}
+
+fn numbers(list: &str) -> Vec<u64> {
+    list.split_whitespace().map(|number| number.parse().expect("a list of numbers")).collect()
+}
+
+/// Tables that rise and tables that fall, keys at each place of them, and full categories.
+pub fn key_cases() -> Vec<Case> {
+    // Begins as the half header does that the stream ended with, so that all of the older stream is the front of this
+    // one.
+    let mut cases = vec![chains::empty()];
+    cases.extend((1..=LENGTHS).map(chains::length));
+    for table in Table::ALL {
+        cases.extend((0..3).map(|several| chains::search(table, Order::Rises, several)));
+        cases.extend(Order::ALL[1..].iter().map(|order| chains::search(table, *order, 1)));
+    }
+    let r = &mut Random::of_case(SEED, 0);
+    cases.extend((0..full::VARIANTS).map(|variant| full::full(variant, r)));
+    cases
+}
+
+fn write(dir: &Path, stdin: &[u8], stdout: &[u8]) -> io::Result<()> {
+    fs::create_dir_all(dir)?;
+    fs::write(dir.join("stdin"), stdin)?;
+    fs::write(dir.join("stdout"), stdout)
+}
+
+/// The cases as a stream that breaks off inside the front of one more, and the lines that it gets.
+pub fn stream(cases: &[Case]) -> (Vec<u8>, Vec<u8>) {
+    let (mut stdin, mut stdout) = (vec![], vec![]);
+    for case in cases {
+        let bytes = case.bytes();
+        answers_of_bytes(case, &bytes).iter().for_each(|answer| answer.line(&mut stdout));
+        stdin.extend(bytes);
+    }
+    stdin.extend([0; HEADER / 2]);
+    stdout.extend(BROKEN);
+    (stdin, stdout)
+}
+
+pub fn answers(dir: &Path) -> io::Result<String> {
+    let cases = cases();
+    let entries: usize = cases.iter().map(|case| case.entries.len()).sum();
+    let (stdin, stdout) = stream(&cases);
+    write(dir, &stdin, &stdout)?;
+    Ok(format!("{} cases, {entries} entries, {} bytes", cases.len(), stdin.len()))
+}
+
+/// Streams long enough to be left to `second edges`.
+const LONG_STREAM: usize = 100_000;
+
+/// Each short stream of `second edges` in a folder of its own.
+pub fn broken(dir: &Path) -> io::Result<usize> {
+    let mut streams = edges::streams();
+    streams.retain(|(_, stdin, _)| stdin.len() < LONG_STREAM);
+    for (number, (_, stdin, stdout)) in streams.iter().enumerate() {
+        write(&dir.join(format!("{number:02}")), stdin, stdout.as_bytes())?;
+    }
+    Ok(streams.len())
+}
+
+pub fn unit_input() -> Vec<u8> {
+    input::<UnitFile>(SEED, 0..UNIT_FILES)
+}
+
+pub fn units(dir: &Path) -> io::Result<usize> {
+    let stdin = unit_input();
+    let stdout = unit_list(&stdin);
+    write(dir, &stdin, &stdout)?;
+    Ok(stdout.iter().filter(|c| **c == b'\n').count())
+}
+
+/// So many whole calls are stored, and a damaged one.
+pub const CALLS: usize = 1_500;
+/// The rest is filled up with streams no longer than this.
+const FILLING_CALLS: usize = 600;
+
+/// The chosen calls, and others; then one of 4,097 bytes, and one more behind it.
+pub fn call_input() -> Vec<u8> {
+    let chosen = numbers(CHOSEN_CALLS);
+    let made = |number: &u64| CallCase { damaged: None, ..call_case(SEED, *number) };
+    let mut calls: Vec<Call> = chosen.iter().flat_map(|number| made(number).whole).collect();
+    let others = (0..).filter(|number| !chosen.contains(number)).map(|number| made(&number));
+    let room = CALLS - calls.len();
+    calls.extend(others.filter(|case| case.bytes().len() <= FILLING_CALLS).flat_map(|case| case.whole).take(room));
+    let longer = Call::Read(vec![b' '; BYTES_MOST as usize + 1]);
+    let last = calls[0].clone();
+    [stream_of(&calls), stream_of(&[longer, last])].concat()
+}
+
+pub fn calls(dir: &Path) -> io::Result<usize> {
+    let stdin = call_input();
+    let stdout = call_lines(&stdin);
+    write(dir, &stdin, &stdout)?;
+    Ok(stdout.iter().filter(|c| **c == b'\n').count())
+}

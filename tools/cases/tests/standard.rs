@@ -1,0 +1,229 @@
+//! The standard run reaches every test, and so do the stored vectors; wrong programs are told, each by a small case.
+
+use cases::generate::calls::call_case;
+use cases::generate::{self, calls::CallCase, case::Case, full, proof_table::k_case};
+use cases::run::cover::{Coverage, Seen};
+use cases::run::difference::Report;
+use cases::run::searches::{self, Searches};
+use cases::run::smallest::unit_file::UnitFile;
+use cases::run::{again::again, compare, cover_calls, demand3, edges, store, STANDARD_CASES, STANDARD_SEED};
+use second::check::entry::{AGE, COUNT, SURFACE, TIME_UNIT, WEIGHT};
+use second::check::test::Shape;
+use second::check::{Table, Test};
+use second::record::{calls::calls, list::unit_list};
+use std::fs;
+use std::os::unix::fs::PermissionsExt;
+use std::path::{Path, PathBuf};
+use std::process::Command;
+use std::sync::LazyLock;
+
+#[test]
+fn every_test_gives_its_answer() {
+    let mut coverage = Coverage::default();
+    for number in 0..STANDARD_CASES {
+        coverage.add(&generate::case(STANDARD_SEED, number));
+    }
+    assert_eq!(coverage.missing(), []);
+}
+
+#[test]
+fn every_call_has_each_outcome() {
+    let mut coverage = cover_calls::Coverage::default();
+    for number in 0..STANDARD_CASES {
+        coverage.add(&call_case(STANDARD_SEED, number));
+    }
+    assert_eq!(coverage.missing(), []);
+}
+
+static STORED: LazyLock<Vec<Case>> = LazyLock::new(store::cases);
+
+/// The stored vectors hold long tables of 640 alone.
+#[test]
+fn the_stored_vectors_reach_every_test() {
+    let mut coverage = Coverage::default();
+    STORED.iter().for_each(|case| coverage.add(case));
+    let too_long = |table| Seen::Test(Test::Shape(table, Shape::TooLong));
+    assert_eq!(coverage.missing(), Table::ALL[1..].iter().map(|table| too_long(*table)).collect::<Vec<Seen>>());
+}
+
+/// What the gate runs the proved programs on: K1 to K15 first, thousands of cases, below 5 MB.
+#[test]
+fn the_stored_files_are_these_vectors() {
+    let file = |name: &str| fs::read(format!("{}/../../crates/{name}", env!("CARGO_MANIFEST_DIR"))).expect(name);
+    let (stdin, stdout) = store::stream(&STORED);
+    assert!(file("answers/stdin") == stdin && file("answers/stdout") == stdout, "run tools/store-cases");
+    assert!(stdin.starts_with(&k_case().bytes()));
+    assert!(
+        STORED.len() == store::CASES + store::key_cases().len() && store::CASES >= 3_000 && stdin.len() < 5_000_000
+    );
+    let units = store::unit_input();
+    assert!(file("unit_list/stdin").starts_with(&units), "run tools/store-cases");
+    assert!(file("unit_list/stdout").starts_with(&unit_list(&units)), "run tools/store-cases");
+    let (stdin, stdout) = (store::call_input(), calls(&store::call_input()));
+    assert!(file("record_calls/stdin") == stdin && file("record_calls/stdout") == stdout, "run tools/store-cases");
+    assert!(stdout.ends_with(b"\nbroken\n") && stdin.len() + stdout.len() < 1_000_000);
+    assert_eq!(stdout.iter().filter(|c| **c == b'\n').count(), store::CALLS + 1);
+}
+
+/// Steps 7 and 11 at their bound, each where the keys of 643 rise and where they fall: all of 512 rows fit, one of
+/// 512, one of 513. What is to be answered is document 01's, and what is stored is read from the files.
+#[test]
+fn full_categories_are_stored() {
+    let name = "answers/stdout";
+    let file = fs::read_to_string(format!("{}/../../crates/{name}", env!("CARGO_MANIFEST_DIR"))).expect(name);
+    let (key, mut lines, mut seen) = (full::KEY, file.lines(), vec![]);
+    for case in STORED.iter() {
+        let stored: Vec<&str> = lines.by_ref().take(case.entries.len()).collect();
+        let rows = &case.tables[Table::T643 as usize];
+        let of_category: Vec<&[u64]> = rows.cells.chunks_exact(10).filter(|row| row[0] == key).collect();
+        let [entry] = case.entries[..] else { continue };
+        if of_category.is_empty() {
+            continue;
+        }
+        let number = |place: usize| entry[place] as u64;
+        let encloses = |row: &[u64], low: usize, number: u64| {
+            row[low] <= number && (number <= row[low + 1] || row[low + 1] == 999_999)
+        };
+        let fits = |row: &&&[u64]| {
+            encloses(row, 1, 1_000 * number(AGE))
+                && (row[3], row[4]) == (number(COUNT), number(TIME_UNIT))
+                && encloses(row, 5, number(WEIGHT))
+                && encloses(row, 7, number(SURFACE))
+        };
+        let rises = rows.cells.chunks_exact(10).is_sorted_by_key(|row| row[0]);
+        let alone = of_category.len() == rows.count();
+        seen.push((of_category.len(), of_category.iter().filter(fits).count(), rises, alone, stored[0]));
+    }
+    let (all, one, long) = (
+        format!("123 0 643 {key} {key} 0 0 0"),
+        format!("100 0 0 {key} {key} {key} 0 0"),
+        format!("120 0 643 {key} {key} 0 0 0"),
+    );
+    let mut expected = vec![];
+    for (rises, alone) in [(true, true), (false, false), (true, false)] {
+        for (count, fitting, line) in [(512, 512, &all), (512, 1, &one), (513, 1, &long)] {
+            expected.push((count, fitting, rises, alone, &line[..]));
+        }
+    }
+    assert_eq!(seen, expected);
+}
+
+/// By few fresh cases, and by the stored ones that were added for it.
+#[test]
+fn every_wrong_search_is_told() {
+    assert_eq!(searches::run(STANDARD_SEED, STANDARD_CASES / 5).untold(), []);
+    let mut stored = Searches::new();
+    store::key_cases().iter().for_each(|case| stored.tell(case, 0));
+    assert_eq!(stored.untold(), []);
+}
+
+/// The second program, built where it stands.
+static SECOND: LazyLock<PathBuf> = LazyLock::new(|| {
+    let folder = Path::new(env!("CARGO_MANIFEST_DIR")).join("../second");
+    let words = ["build", "--offline", "--release", "--quiet"];
+    assert!(Command::new(env!("CARGO")).args(words).current_dir(&folder).status().expect("cargo").success());
+    folder.join("target/release/second")
+});
+
+fn program(of: &str) -> String {
+    format!("{} {of}", SECOND.display())
+}
+
+/// A room of the test's own.
+fn room(name: &str) -> PathBuf {
+    let room = Path::new(env!("CARGO_TARGET_TMPDIR")).join(name);
+    fs::create_dir_all(&room).expect("a room");
+    room
+}
+
+/// A wrong program: the second program's lines through a filter.
+fn wrong(of: &str, name: &str, filter: &str) -> String {
+    let script = room(name).join("wrong");
+    fs::write(&script, format!("#!/bin/sh\n{} 2>/dev/null | {filter}\n", program(of))).expect("a script");
+    fs::set_permissions(&script, fs::Permissions::from_mode(0o755)).expect("a script that runs");
+    script.display().to_string()
+}
+
+/// More cases than one start of the program gets.
+const COMPARED: u64 = 12_000;
+
+/// How many lines were equal.
+fn comparison(room: &Path, answers: Option<&str>, units: Option<&str>, calls: Option<&str>) -> Result<u64, String> {
+    let report = Report { folder: room, again: None };
+    let run = compare::Run { seed: 77, first: 0, cases: COMPARED, quiet: true, answers, units, calls, report };
+    compare::run(&run).map(|equal| equal.entries + equal.records + equal.calls)
+}
+
+#[test]
+fn the_program_agrees_with_itself() {
+    let [answers, units, calls] = ["answers", "units", "calls"].map(program);
+    let room = room("itself");
+    assert!(comparison(&room, Some(&answers), Some(&units), None) > Ok(5 * COMPARED));
+    assert!(comparison(&room, None, None, Some(&calls)) > Ok(COMPARED));
+    for of in ["answers", "units", "calls"] {
+        let inputs = edges::inputs(of).expect(of);
+        assert_eq!(edges::run(&program(of), &inputs), Ok(inputs.len()));
+    }
+}
+
+/// The bytes of the smallest difference, which `again` must tell, and of which the right program must know nothing.
+fn told(of: &str, name: &str, filter: &str) -> (String, usize) {
+    let (wrong, room) = (wrong(of, name, filter), room(name));
+    let program_of = |wanted: &str| (wanted == of).then_some(&wrong[..]);
+    let what = comparison(&room, program_of("answers"), program_of("units"), program_of("calls")).expect_err(name);
+    let file = room.join(of);
+    assert!(what.ends_with(&format!("again {of} '{wrong}' {}", file.display())), "{what}");
+    let bytes = fs::read(file).expect("the smallest difference");
+    let shown = again(of, &wrong, &bytes).expect_err(name);
+    assert!(shown.lines().skip(1).all(|line| what.contains(line)), "{what}\n{shown}");
+    assert_eq!(again(of, &program(of), &bytes), Ok(()), "{name}");
+    (what, bytes.len())
+}
+
+/// A weight outside all rows needs a row of each of four tables, and an entry.
+const FOUR_ROWS: usize = 28 + 12 + 20 + 24 + 40 + 80;
+
+#[test]
+fn a_wrong_check_is_told_by_a_small_case() {
+    let (what, length) = told("answers", "no-weight", "sed 's/^118 14 /114 13 /'");
+    assert_eq!(length, FOUR_ROWS, "{what}");
+    assert!(what.contains("second:  118 14 ") && what.contains("program: 114 13 "), "{what}");
+    // A program that says too little, one that says too much, and one that ends badly.
+    assert_eq!(told("answers", "few-lines", "sed '/^118 14 /d'").1, FOUR_ROWS);
+    assert_eq!(told("answers", "more-lines", "sed '/^118 14 /p'").1, FOUR_ROWS);
+    let (what, _) = told("answers", "bad-end", "awk '{ print } /^118 14 / { exit 3 }'");
+    assert!(what.contains("ended with exit status: 3"), "{what}");
+    assert_eq!(told("answers", "nothing", "cat >/dev/null").1, 28 + 80);
+    assert!(comparison(&room("no-program"), Some("no such program"), None, None).is_err());
+}
+
+#[test]
+fn a_wrong_record_is_told_by_a_small_input() {
+    assert_eq!(told("units", "no-digit", "sed 's/refused 203/refused 202/'").1, 64);
+    assert_eq!(told("units", "not-64", "sed 's/refused 201/refused 202/'").1, 1);
+    // A writing of nothing has 44 bytes.
+    assert_eq!(told("calls", "no-room", "sed 's/^206 /205 /'").1, 44);
+    assert_eq!(told("calls", "written", "sed 's/^0 20*30/1 &/; s/^0 30/1 &/'").1, 44 + 64);
+    assert_eq!(told("calls", "not-broken", "sed '/^broken/d'").1, 1);
+}
+
+#[test]
+fn demand_3_holds_and_a_wrong_question_is_told() {
+    let judged = demand3::run(&program("answers"), 5, 0..2_000).expect("demand 3");
+    assert!(judged.fillings_of_the_question > 1_000 && judged.fillings_of_other_answers > 1_000, "{judged:?}");
+    let wrong = wrong("answers", "wrong-question", "sed 's/^105 10 /106 11 /'");
+    assert!(demand3::run(&wrong, 5, 0..2_000).is_err());
+}
+
+#[test]
+fn the_same_seed_gives_the_same_stream() {
+    let stream = |seed: u64| {
+        let mut bytes = vec![];
+        (20..400).for_each(|number| generate::case(seed, number).write(&mut bytes));
+        bytes
+    };
+    assert_eq!(stream(3), stream(3));
+    assert_ne!(stream(3), stream(4));
+    assert_eq!(compare::input::<UnitFile>(3, 0..50), compare::input::<UnitFile>(3, 0..50));
+    assert_eq!(compare::input::<CallCase>(3, 0..50), compare::input::<CallCase>(3, 0..50));
+}
