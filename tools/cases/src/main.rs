@@ -17,18 +17,19 @@ const HELP: &str = "cases: random and stored cases, and the comparison of a prog
                                    the run's cases, unit files or calls of file 730 as one input
   cases cover RUN                  how often each test gave its answer; fails if one that can occur did not
   cases searches RUN               the case that first tells each wrong search; fails if one is not told
-  cases compare RUN [--answers PROGRAM] [--units PROGRAM] [--calls PROGRAM] [--folder FOLDER] [--again COMMAND]
-                                   runs each PROGRAM on the run's cases, unit files or calls, and compares every line; the
-                                   smallest case of a difference that it finds is written into FOLDER (target/difference),
-                                   with the COMMAND that compares it again
+  cases compare RUN [--answers PROGRAM] [--units PROGRAM] [--calls PROGRAM]
+                                   runs each PROGRAM on the run's cases, unit files or calls, and compares every line
   cases again answers|units|calls PROGRAM FILE
                                    compares PROGRAM on an input, and shows a difference
   cases edges answers|units|calls PROGRAM
                                    whole and damaged inputs
-  cases demand3 PROGRAM RUN        fills blanks and reorders rows, and judges the answers of PROGRAM
+  cases demand3 PROGRAM RUN        fills blanks and reorders rows, judges the answers of PROGRAM, and compares them
   cases fill RUN                   the stream demand3 sends
   cases store answers|broken|units|calls DIR
                                    stored vectors: DIR/stdin and DIR/stdout (broken: a folder for each)
+
+Of a difference the smallest case that is found is written into target/difference, or --folder FOLDER, and the command
+that compares it again is printed: `cases again`, or --again COMMAND.
 
 RUN is --seed S --cases N [--first F]; without them the standard run. PROGRAM is a path, or a path and
 arguments in one word, as 'tools/second/target/release/second answers'.
@@ -45,6 +46,13 @@ struct Arguments {
     calls: Option<String>,
     folder: Option<String>,
     again: Option<String>,
+}
+
+impl Arguments {
+    fn report(&self) -> Report<'_> {
+        let folder = Path::new(self.folder.as_deref().unwrap_or("target/difference"));
+        Report { folder, again: self.again.as_deref() }
+    }
 }
 
 fn arguments() -> Result<Arguments, String> {
@@ -104,7 +112,7 @@ fn run(given: &Arguments) -> Result<(), String> {
         }
         ["demand3", program] => {
             let start = Instant::now();
-            let judged = demand3::run(program, given.seed, numbers)?;
+            let judged = demand3::run(program, given.seed, numbers, &given.report())?;
             println!("demand 3 holds, {} cases: {judged:?}, {:.0?}", given.cases, start.elapsed());
             Ok(())
         }
@@ -155,7 +163,6 @@ fn told(given: &Arguments) -> Result<(), String> {
 
 fn compared(given: &Arguments) -> Result<(), String> {
     let start = Instant::now();
-    let folder = given.folder.as_deref().unwrap_or("target/difference");
     let equal = compare::run(&compare::Run {
         seed: given.seed,
         first: given.first,
@@ -164,7 +171,7 @@ fn compared(given: &Arguments) -> Result<(), String> {
         answers: given.answers.as_deref(),
         units: given.units.as_deref(),
         calls: given.calls.as_deref(),
-        report: Report { folder: Path::new(folder), again: given.again.as_deref() },
+        report: given.report(),
     })?;
     let time = start.elapsed();
     println!("{} cases, {equal}, all equal, {time:.0?}", given.cases);

@@ -209,10 +209,18 @@ fn a_wrong_record_is_told_by_a_small_input() {
 
 #[test]
 fn demand_3_holds_and_a_wrong_question_is_told() {
-    let judged = demand3::run(&program("answers"), 5, 0..2_000).expect("demand 3");
+    let room = room("demand3");
+    let report = Report { folder: &room, again: None };
+    let judged = demand3::run(&program("answers"), 5, 0..2_000, &report).expect("demand 3");
     assert!(judged.fillings_of_the_question > 1_000 && judged.fillings_of_other_answers > 1_000, "{judged:?}");
     let wrong = wrong("answers", "wrong-question", "sed 's/^105 10 /106 11 /'");
-    assert!(demand3::run(&wrong, 5, 0..2_000).is_err());
+    let what = demand3::run(&wrong, 5, 0..2_000, &report).expect_err("a wrong question");
+    assert!(what.starts_with("demand 3 is broken") && what.contains("106 asks for surface, which is given"), "{what}");
+    // One that is steady, and differs all the same.
+    let wrong = self::wrong("answers", "wrong-and-steady", "sed 's/^118 14 /118 15 /'");
+    let what = demand3::run(&wrong, 5, 0..2_000, &report).expect_err("a difference");
+    assert!(what.contains("differs") && what.contains("program: 118 15 "), "{what}");
+    assert_eq!(fs::read(room.join("answers")).map(|bytes| bytes.len()).ok(), Some(FOUR_ROWS));
 }
 
 #[test]

@@ -1,9 +1,9 @@
 //! A case under construction: six tables of numbers, odd bytes behind them, and entries.
 
 use crate::random::Random;
+use second::check::cells::cell;
 use second::check::entry::FIELDS;
 use second::check::fields::CDHOEV;
-use second::check::tables::cell;
 use second::check::Table;
 use second::stream::{numbers, parts, Header, ENTRY, HEADER};
 

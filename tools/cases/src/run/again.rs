@@ -1,7 +1,7 @@
 //! An input, such as that of a difference, compared again.
 
 use super::difference::both;
-use super::smallest::{differing, unit_file::UnitFile, Piece};
+use super::smallest::{compared, unit_file::UnitFile, Outcome, Piece};
 use crate::generate::{calls::CallCase, case::Case};
 
 /// Compares a program with the second program on an input; the difference is an error.
@@ -16,8 +16,7 @@ pub fn again(of: &str, program: &str, input: &[u8]) -> Result<(), String> {
 
 fn pieces<P: Piece>(program: &str, input: &[u8]) -> Result<(), String> {
     let pieces = P::read(input).ok_or(format!("the input is no whole stream of {}", P::NAME))?;
-    match differing(program, &pieces)?.first() {
-        Some(place) => Err(format!("{program} differs\n{}", both(program, &pieces[*place])?.trim_end())),
-        None => Ok(()),
-    }
+    let Outcome::Differs(found) = compared(program, &pieces)? else { return Ok(()) };
+    let shown = found.first().map(|place| both(program, &pieces[*place])).transpose()?;
+    Err(format!("{program} differs\n{}", shown.unwrap_or("in no part by itself".to_string()).trim_end()))
 }

@@ -1,7 +1,7 @@
 //! Bulk comparison of another program with the second program, line by line.
 
 use super::difference::{difference, Report};
-use super::smallest::{differing, unit_file::UnitFile, Piece};
+use super::smallest::{compared, unit_file::UnitFile, Outcome, Piece};
 use crate::generate::{calls::CallCase, case::Case};
 use std::ops::Range;
 use std::time::Instant;
@@ -44,13 +44,13 @@ pub fn run(run: &Run) -> Result<Equal, String> {
     for (batch, first) in (run.first..end).step_by(BATCH as usize).enumerate() {
         let numbers = first..end.min(first + BATCH);
         if let Some(program) = run.answers {
-            equal.entries += compared::<Case>(run, program, numbers.clone())?;
+            equal.entries += lines::<Case>(run, program, numbers.clone())?;
         }
         if let Some(program) = run.units {
-            equal.records += compared::<UnitFile>(run, program, numbers.clone())?;
+            equal.records += lines::<UnitFile>(run, program, numbers.clone())?;
         }
         if let Some(program) = run.calls {
-            equal.calls += compared::<CallCase>(run, program, numbers)?;
+            equal.calls += lines::<CallCase>(run, program, numbers)?;
         }
         if batch as u64 % PROGRESS == PROGRESS - 1 && !run.quiet {
             let done = end.min(first + BATCH) - run.first;
@@ -60,14 +60,14 @@ pub fn run(run: &Run) -> Result<Equal, String> {
     Ok(equal)
 }
 
-/// The number of lines.
-fn compared<P: Piece>(run: &Run, program: &str, numbers: Range<u64>) -> Result<u64, String> {
+/// The number of lines that were equal.
+fn lines<P: Piece>(run: &Run, program: &str, numbers: Range<u64>) -> Result<u64, String> {
     let ordered = P::in_order(run.seed, numbers.clone());
     let pieces: Vec<P> = ordered.iter().map(|number| P::of_run(run.seed, *number)).collect();
-    let found = differing(program, &pieces)?;
-    if found.is_empty() {
-        return Ok(P::lines(&pieces).concat().iter().filter(|c| **c == b'\n').count() as u64);
-    }
+    let found = match compared(program, &pieces)? {
+        Outcome::Same(lines) => return Ok(lines as u64),
+        Outcome::Differs(found) => found,
+    };
     let Range { start, end } = numbers;
     let all = format!("{} of the {} {start} to {} of seed {}", found.len(), P::NAME, end - 1, run.seed);
     if !run.quiet {

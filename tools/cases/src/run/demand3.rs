@@ -1,5 +1,7 @@
 //! Demand 3 by brute force over another program: blanks filled, rows in another order.
 
+use super::difference::{difference, Report};
+use super::smallest::{compared, Outcome, Piece};
 use super::{answers_of, program, show};
 use crate::generate;
 use crate::generate::case::{Case, Numbers};
@@ -10,6 +12,9 @@ use std::ops::Range;
 
 /// The data an entry may leave blank, each with its question.
 const DATA: [(usize, u32); 6] = [(AGE, 101), (SEX, 102), (HPK, 103), (PRK, 104), (WEIGHT, 105), (SURFACE, 106)];
+
+/// What a program that breaks demand 3 is told by.
+const BROKEN: &str = "demand 3 is broken";
 
 /// Cases for each start of the program.
 const BATCH: u64 = 2_500;
@@ -85,15 +90,14 @@ fn filling(seed: u64, number: u64) -> Filling {
     Filling { number, case, filled, shuffled }
 }
 
-/// The stream of filled entries, each case followed by itself with its rows in another order.
+/// Each case with its entries filled, followed by itself with its rows in another order.
+fn pieces(fillings: &[Filling]) -> Vec<Case> {
+    fillings.iter().flat_map(|filling| [filling.case.clone(), filling.shuffled.clone()]).collect()
+}
+
+/// The stream of filled entries.
 pub fn stream(seed: u64, cases: Range<u64>) -> Vec<u8> {
-    let mut out = vec![];
-    for number in cases {
-        let filling = filling(seed, number);
-        filling.case.write(&mut out);
-        filling.shuffled.write(&mut out);
-    }
-    out
+    Case::joined(&pieces(&cases.map(|number| filling(seed, number)).collect::<Vec<Filling>>()))
 }
 
 /// How many answers were judged, by kind.
@@ -106,30 +110,45 @@ pub struct Judged {
     pub reordered: u64,
 }
 
-pub fn run(of: &str, seed: u64, cases: Range<u64>) -> Result<Judged, String> {
+/// Judges the program's answers by themselves, and then compares them with those of the second program.
+pub fn run(of: &str, seed: u64, cases: Range<u64>, report: &Report) -> Result<Judged, String> {
     let mut judged = Judged::default();
     for (batch, first) in cases.clone().step_by(BATCH as usize).enumerate() {
         if batch > 0 && batch.is_multiple_of(PROGRESS) {
             eprintln!("demand 3: {} of {} cases", first - cases.start, cases.end - cases.start);
         }
         let numbers = first..cases.end.min(first + BATCH);
-        let lines = program::lines(of, &stream(seed, numbers.clone()))?;
-        let mut rest = &lines[..];
-        for number in numbers {
-            let filling = filling(seed, number);
-            let count = filling.case.entries.len();
-            if rest.len() < 2 * count {
-                return Err(format!("{of}: lines missing from case {number} of seed {seed} on"));
-            }
-            judge(&filling, &rest[..count], &rest[count..2 * count], &mut judged)
-                .map_err(|what| format!("{of}, seed {seed}: {what}\n{}", repeat(of, seed, number)))?;
-            rest = &rest[2 * count..];
+        let fillings: Vec<Filling> = numbers.map(|number| filling(seed, number)).collect();
+        let pieces = pieces(&fillings);
+        let lines = program::lines(of, &Case::joined(&pieces))?;
+        judge_all(of, seed, &fillings, &lines, &mut judged)?;
+        if lines.join("\n").as_bytes() == Case::lines(&pieces).concat().trim_ascii_end() {
+            continue;
         }
-        if !rest.is_empty() {
-            return Err(format!("{of}: lines behind the last entry"));
+        if let Outcome::Differs(found) = compared(of, &pieces)? {
+            let number = |place: usize| fillings[place / 2].number;
+            let name = |place: usize| format!("number {} of seed {seed}, its blanks filled", number(place));
+            return Err(format!("{of} differs\n{}", difference(of, &pieces, &found, name, report)?));
         }
     }
     Ok(judged)
+}
+
+fn judge_all(of: &str, seed: u64, fillings: &[Filling], lines: &[String], judged: &mut Judged) -> Result<(), String> {
+    let mut rest = lines;
+    for filling in fillings {
+        let (number, count) = (filling.number, filling.case.entries.len());
+        if rest.len() < 2 * count {
+            return Err(format!("{of}: lines missing from case {number} of seed {seed} on"));
+        }
+        judge(filling, &rest[..count], &rest[count..2 * count], judged)
+            .map_err(|what| format!("{BROKEN} by {of}, seed {seed}: {what}\n{}", repeat(of, seed, number)))?;
+        rest = &rest[2 * count..];
+    }
+    match rest {
+        [] => Ok(()),
+        _ => Err(format!("{of}: lines behind the last entry")),
+    }
 }
 
 fn repeat(of: &str, seed: u64, number: u64) -> String {

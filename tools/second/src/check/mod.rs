@@ -2,6 +2,7 @@
 
 mod answer;
 mod category;
+pub mod cells;
 pub mod entry;
 pub mod fields;
 mod frequency;

@@ -1,7 +1,7 @@
 //! The shape (121) and the range (122) of the lent tables.
 
+use super::cells::{cell, rows};
 use super::fields::{LOW_BOUNDS, ROWS_MOST};
-use super::tables::{cell, rows};
 use super::test::{Shape, Side, Table, Test};
 
 /// 121: the first table that is not whole rows, or too long.

@@ -38,19 +38,29 @@ pub trait Piece: Clone {
 const TOGETHER: usize = 500;
 const BYTES_TOGETHER: usize = 8 << 20;
 
-/// Places of pieces for which the program writes other lines than the second program. Where it ends badly, or writes
-/// too few or too many lines, at least one of those that cause it.
-pub fn differing<P: Piece>(program: &str, pieces: &[P]) -> Result<Vec<usize>, String> {
+/// What came of comparing a program with the second program.
+pub enum Outcome {
+    /// So many lines, all the same.
+    Same(usize),
+    /// The places of pieces for which other lines were written. Where the program ends badly, or writes too few or too
+    /// many lines, one of those that cause it; none, if none of them does by itself.
+    Differs(Vec<usize>),
+}
+
+fn count(lines: &[u8]) -> usize {
+    lines.iter().filter(|c| **c == b'\n').count()
+}
+
+pub fn compared<P: Piece>(program: &str, pieces: &[P]) -> Result<Outcome, String> {
     let Output { bytes, ended } = program::output(program, &P::joined(pieces))?;
     let expected = P::lines(pieces);
     if ended.is_ok() && bytes == expected.concat() {
-        return Ok(vec![]);
+        return Ok(Outcome::Same(count(&bytes)));
     }
     if pieces.len() == 1 {
-        return Ok(vec![0]);
+        return Ok(Outcome::Differs(vec![0]));
     }
     let lines: Vec<&[u8]> = bytes.split_inclusive(|c| *c == b'\n').collect();
-    let count = |lines: &[u8]| lines.iter().filter(|c| **c == b'\n').count();
     if ended.is_ok() && lines.len() == expected.iter().map(|lines| count(lines)).sum::<usize>() {
         let mut rest = &lines[..];
         let mut differs = |right: &Vec<u8>| {
@@ -58,19 +68,20 @@ pub fn differing<P: Piece>(program: &str, pieces: &[P]) -> Result<Vec<usize>, St
             rest = behind;
             lines.concat() != *right
         };
-        return Ok((0..pieces.len()).filter(|place| differs(&expected[*place])).collect());
+        return Ok(Outcome::Differs((0..pieces.len()).filter(|place| differs(&expected[*place])).collect()));
     }
     let (front, back) = pieces.split_at(pieces.len() / 2);
-    let found = differing(program, front)?;
-    if !found.is_empty() {
-        return Ok(found);
+    for (half, before) in [(front, 0), (back, front.len())] {
+        if let Outcome::Differs(found) = compared(program, half)? {
+            return Ok(Outcome::Differs(found.into_iter().map(|place| before + place).collect()));
+        }
     }
-    Ok(differing(program, back)?.into_iter().map(|place| front.len() + place).collect())
+    Ok(Outcome::Differs(vec![]))
 }
 
 /// Whether the program differs on the piece by itself.
 pub fn differs<P: Piece>(program: &str, piece: &P) -> Result<bool, String> {
-    Ok(!differing(program, std::slice::from_ref(piece))?.is_empty())
+    Ok(matches!(compared(program, std::slice::from_ref(piece))?, Outcome::Differs(_)))
 }
 
 /// From a piece on which the program differs.
@@ -101,7 +112,8 @@ fn first_smaller<P: Piece>(program: &str, piece: &P, most: usize) -> Result<Opti
             bytes += P::joined(std::slice::from_ref(&next)).len();
             together.push(next);
         }
-        for place in differing(program, &together)? {
+        let Outcome::Differs(found) = compared(program, &together)? else { continue };
+        for place in found {
             if together.len() == 1 || differs(program, &together[place])? {
                 return Ok(Some(together.swap_remove(place)));
             }
