@@ -64,15 +64,16 @@ impl Piece for Case {
 
     fn shown(&self, second: &str, program: &str) -> String {
         let mut shown = show::tables(self);
-        let answers = answers_of(self);
-        let (mut second, mut program) = (second.lines(), program.lines());
-        for (entry, answer) in self.entries.iter().zip(answers) {
-            let (second, program) = (second.next().unwrap_or_default(), program.next().unwrap_or("(no line)"));
-            if second != program {
-                shown +=
-                    &format!("entry:   {}\nsecond:  {second} (by the test {:?})\n", show::entry(entry), answer.test);
-                shown += &format!("program: {program}\n");
+        let (second, program): (Vec<&str>, Vec<&str>) = (second.lines().collect(), program.lines().collect());
+        for (place, (entry, answer)) in self.entries.iter().zip(answers_of(self)).enumerate() {
+            let (second, program) = (second[place], program.get(place).unwrap_or(&"(no line)"));
+            if second != *program {
+                shown += &format!("entry:   {}\n", show::entry(entry));
+                shown += &format!("second:  {second} (by the test {:?})\nprogram: {program}\n", answer.test);
             }
+        }
+        if second.len() != program.len() {
+            shown += &format!("lines:   second {}, program {}\n", second.len(), program.len());
         }
         shown
     }
