@@ -99,6 +99,9 @@ fn run(given: &Arguments) -> Result<(), String> {
         ["fill"] => io::stdout().write_all(&demand3::stream(given.seed, numbers)).map_err(failed),
         ["cover"] => covered(given),
         ["searches"] => told(given),
+        ["compare"] if given.answers.is_none() && given.units.is_none() && given.calls.is_none() => {
+            Err("compare: no program is given, so that nothing would be compared; see cases --help".to_string())
+        }
         ["compare"] => compared(given),
         ["again", of, program, file] => {
             again(of, program, &std::fs::read(file).map_err(|error| format!("{file}: {error}"))?)?;

@@ -1,7 +1,7 @@
 //! Unit files.
 
 use crate::random::Random;
-use second::record::{write, Unit, RECORD};
+use second::record::RECORD;
 
 /// A file of good and damaged records.
 pub fn unit_file(seed: u64, number: u64) -> Vec<u8> {
@@ -37,17 +37,12 @@ pub fn number(r: &mut Random, most: u64) -> u64 {
     r.pick(&[0, 1, most, any, any, small, 10.min(most), 1_000.min(most), most - 1])
 }
 
+/// Part by part as document 004 has it, and not by the second program, whose writer is compared on it.
 pub fn good(r: &mut Random) -> [u8; RECORD] {
-    let unit = Unit {
-        mutation: r.below(4) as u32,
-        srtcde: number(r, 999_999) as u32,
-        code: number(r, 99_999_999) as u32,
-        cdhoev: number(r, 999_999_999_999),
-        cdeenh: number(r, 999_999) as u32,
-    };
-    let mut record = [0; RECORD];
-    write::write(&unit, &mut record, 0).expect("numbers within the file's widths");
-    record
+    let mutation = r.below(4);
+    let [srtcde, code, cdhoev, cdeenh] = [999_999, 99_999_999, 999_999_999_999, 999_999].map(|most| number(r, most));
+    let record = format!("0730{mutation}1850{srtcde:06}{code:08}{cdhoev:012}0002{cdeenh:06}{:19}", "");
+    record.into_bytes().try_into().expect("64 characters")
 }
 
 /// Places in a record: the ends of each part, or any.

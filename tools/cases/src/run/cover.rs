@@ -90,14 +90,6 @@ impl Coverage {
         }
     }
 
-    /// Whether the case shows something seen fewer than `times` times; the order of its rows is left out, since the
-    /// stored cases were chosen without it.
-    pub fn shows_new(&self, case: &Case, times: u64) -> bool {
-        let answers = answers_of(case);
-        let mut all = answers.iter().zip(&case.entries).flat_map(|(answer, entry)| seen(answer, entry));
-        all.any(|seen| *self.counts.get(&seen).unwrap_or(&0) < times)
-    }
-
     /// What can occur and did not.
     pub fn missing(&self) -> Vec<Seen> {
         required().into_iter().filter(|seen| !self.counts.contains_key(seen)).collect()

@@ -89,11 +89,6 @@ impl Coverage {
         all.iter().for_each(|seen| *self.counts.entry(*seen).or_default() += 1);
     }
 
-    /// Whether the calls show something seen fewer than `times` times.
-    pub fn shows_new(&self, calls: &[Call], times: u64) -> bool {
-        calls.iter().flat_map(seen).any(|seen| *self.counts.get(&seen).unwrap_or(&0) < times)
-    }
-
     /// What can occur and did not.
     pub fn missing(&self) -> Vec<Seen> {
         required().into_iter().filter(|seen| !self.counts.contains_key(seen)).collect()

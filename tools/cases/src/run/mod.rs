@@ -17,7 +17,7 @@ use crate::generate::case::Case;
 use second::check::{check, Answer, Entry, Lent};
 use second::stream::{parts, Header, HEADER};
 
-/// The standard run: what `cargo test` covers and tells faults with.
+/// The standard run: what `cargo test` covers and wrong versions are told by.
 pub const STANDARD_SEED: u64 = 1;
 pub const STANDARD_CASES: u64 = 20_000;
 

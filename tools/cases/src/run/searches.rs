@@ -9,8 +9,16 @@ use crate::generate::order::{key_place, keys, Order};
 use crate::generate::{self, LONG_CASES};
 use second::check::Table;
 
-#[derive(Clone, Copy, PartialEq, Eq, Debug)]
-pub enum Mistake {
+macro_rules! mistakes {
+    ($($name:ident,)*) => {
+        #[derive(Clone, Copy, PartialEq, Eq, Debug)]
+        pub enum Mistake { $($name,)* }
+
+        const ALL: &[Mistake] = &[$(Mistake::$name,)*];
+    };
+}
+
+mistakes! {
     HalvesAnyOrder,
     FirstPairNotCompared,
     LastPairNotCompared,
@@ -25,20 +33,6 @@ pub enum Mistake {
 }
 
 use Mistake::*;
-
-const ALL: [Mistake; 11] = [
-    HalvesAnyOrder,
-    FirstPairNotCompared,
-    LastPairNotCompared,
-    StopsAtFall,
-    FirstRowMissed,
-    LastRowMissed,
-    OneRowFound,
-    FirstOfTableMissed,
-    LastOfTableMissed,
-    OneRowMore,
-    NextForAbsent,
-];
 
 /// The rows found of a key, from a place to another.
 fn halved(keys: &[u64], key: u64) -> (usize, usize) {
@@ -93,7 +87,7 @@ pub struct Searches {
 
 impl Searches {
     pub fn new() -> Searches {
-        let of = |table: Table| ALL.map(|mistake| (table, mistake, None));
+        let of = |table: Table| ALL.iter().map(move |mistake| (table, *mistake, None));
         Searches { all: Table::ALL.into_iter().flat_map(of).collect() }
     }
 
