@@ -8,7 +8,7 @@ use Rattle.guideline.specs.Rows.{keyed}
 use Rattle.filter.specs.declared.Measure.{Measure}
 use Rattle.filter.specs.declared.Measure.the-variants.{Weight, Surface}
 use Rattle.filter.specs.declared.Filter.{Filter}
-use Rattle.filter.specs.declared.Filter.the-variants.{Every, Age, Encloses}
+use Rattle.filter.specs.declared.Filter.the-variants.{Every, Age, FitsMeasure}
 use Rattle.filter.specs.Filters.{filter643}
 use Rattle.dose_row.specs.declared.settled.Settled.{Settled}
 use Rattle.dose_row.specs.Settled.{and-age, and-frequency, and-weight, and-surface, and-measure, settled643}
@@ -57,16 +57,16 @@ module _ (s : Settled) (r : Row643) where
   unfolding settled643
   frequency-joins q e = rw e (third own aged (filter643 q r) (weighed && of-surface))
 
-  pub weight-joins : (x : ℕ) → s .weight ≡ Every → settled643 (and-weight s x) r ≡ (settled643 s r && filter643 (Encloses Weight x) r)
+  pub weight-joins : (x : ℕ) → s .weight ≡ Every → settled643 (and-weight s x) r ≡ (settled643 s r && filter643 (FitsMeasure Weight x) r)
   unfolding settled643
-  weight-joins x e = rw e (fourth own aged as-often (filter643 (Encloses Weight x) r) of-surface)
+  weight-joins x e = rw e (fourth own aged as-often (filter643 (FitsMeasure Weight x) r) of-surface)
 
-  pub surface-joins : (x : ℕ) → s .surface ≡ Every → settled643 (and-surface s x) r ≡ (settled643 s r && filter643 (Encloses Surface x) r)
+  pub surface-joins : (x : ℕ) → s .surface ≡ Every → settled643 (and-surface s x) r ≡ (settled643 s r && filter643 (FitsMeasure Surface x) r)
   unfolding settled643
-  surface-joins x e = rw e (fifth own aged as-often weighed (filter643 (Encloses Surface x) r))
+  surface-joins x e = rw e (fifth own aged as-often weighed (filter643 (FitsMeasure Surface x) r))
 
 -- either measure
-pub measure-joins : (m : Measure) (s : Settled) (x : ℕ) → own-filter m s ≡ Every → (r : Row643) → settled643 (and-measure s m x) r ≡ (settled643 s r && filter643 (Encloses m x) r)
+pub measure-joins : (m : Measure) (s : Settled) (x : ℕ) → own-filter m s ≡ Every → (r : Row643) → settled643 (and-measure s m x) r ≡ (settled643 s r && filter643 (FitsMeasure m x) r)
 measure-joins Weight s x e r = weight-joins s r x e
 measure-joins Surface s x e r = surface-joins s r x e
 

@@ -13,7 +13,7 @@ use Rattle.guideline.specs.declared.refusals.Question.{Question}
 use Rattle.guideline.specs.declared.refusals.Refusal.the-variants.{Asks, Ends}
 use Rattle.guideline.specs.declared.refusals.Signal.{Signal}
 use Rattle.guideline.specs.declared.rows.Row643.{Row643}
-use Rattle.guideline.specs.Values.{encloses, matters}
+use Rattle.guideline.specs.Values.{fits, matters}
 use Rattle.guideline.specs.Ask.{asks-for, Chosen, Refused, Done, run, _>>=_}
 use Rattle.guideline.specs.Table.{Table, some, among, every}
 use Rattle.guideline.specs.Steps.{signal, when, refuse, ask, choose, one, narrow, no-frequency, by-frequency, by-measure, one-row}
@@ -102,7 +102,7 @@ module _ (q : Question) (none : Ending) (bounds : Row643 → Bounds) (t : Table 
   unfolding by-measure when ask _>>=_
   measure-blank h b = rw (h, b)
 
-  pub measure-given : {x : ℕ} → some (t (λ r. matters (bounds r))) ≡ true → d (asks-for q) ≡ Given x → run d (by-measure q none bounds t) ≡ run d (narrow (λ r. encloses (bounds r) x) none t)
+  pub measure-given : {x : ℕ} → some (t (λ r. matters (bounds r))) ≡ true → d (asks-for q) ≡ Given x → run d (by-measure q none bounds t) ≡ run d (narrow (λ r. fits (bounds r) x) none t)
   unfolding by-measure when ask _>>=_
   measure-given h b = rw (h, b)
 

@@ -11,7 +11,7 @@ use Rattle.cells.specs.Lents.{shown}
 use Rattle.filter.specs.declared.Measure.{Measure}
 use Rattle.filter.specs.declared.Measure.the-variants.{Weight, Surface}
 use Rattle.filter.specs.declared.Filter.{Filter}
-use Rattle.filter.specs.declared.Filter.the-variants.{Every, Age, Encloses}
+use Rattle.filter.specs.declared.Filter.the-variants.{Every, Age, FitsMeasure}
 use Rattle.filter.specs.Filters.{filter643}
 use Rattle.dose_row.specs.declared.settled.Settled.{Settled}
 
@@ -29,11 +29,11 @@ and-frequency s f =
 
 abbrev pub and-weight : Settled → ℕ → Settled
 and-weight s x =
-    record { category = s .category; age = s .age; frequency = s .frequency; weight = Encloses Weight x; surface = s .surface }
+    record { category = s .category; age = s .age; frequency = s .frequency; weight = FitsMeasure Weight x; surface = s .surface }
 
 abbrev pub and-surface : Settled → ℕ → Settled
 and-surface s x =
-    record { category = s .category; age = s .age; frequency = s .frequency; weight = s .weight; surface = Encloses Surface x }
+    record { category = s .category; age = s .age; frequency = s .frequency; weight = s .weight; surface = FitsMeasure Surface x }
 
 abbrev pub and-measure : Settled → Measure → ℕ → Settled
 and-measure s Weight x = and-weight s x

@@ -51,7 +51,7 @@ fn ending_of(m: Measure) -> Ending
     }
 }
 
-// "Weight matters if some remaining row has low above 0 or high below 999,999. Then blank 105; keep enclosing rows; none 118. Surface the same, 106 and 119."
+// "Weight matters if some remaining row has low above 0 or high below 999,999. Then blank 105; keep" rows that fit it (P1); "none 118. Surface the same, 106 and 119."
 pub fn by_measure(t643: &[u8], v: View, s: Settled, m: Measure, value: Value) -> Measured
     requires { ⌜ Fits (width T643) v (length (now t643)) × (own-filter m s ≡ Every) ⌝ }
     ensures { λ r. ⌜ Leaves (now (t643 .entry)) v s m value r ⌝ }
@@ -62,7 +62,7 @@ pub fn by_measure(t643: &[u8], v: View, s: Settled, m: Measure, value: Value) ->
     let Value::Given(x) = value else {
         return Measured::Refused(Refusal::Asks(question_of(m)));
     };
-    let i = s.first(t643, v, Filter::Encloses(m, x));
+    let i = s.first(t643, v, Filter::FitsMeasure(m, x));
     if i == v.rows {
         return Measured::Refused(Refusal::Ends(ending_of(m)));
     }

@@ -30,7 +30,7 @@ impl Settled {
         }
     }
 
-    // Step 8. "Rows whose low and high enclose it."
+    // Step 8. The rows that fit the age (P1).
     pub fn by_age(self, months: u32) -> Settled
         ensures { λ r. ⌜ r ≡ and-age self months ⌝ }
     {
@@ -62,7 +62,7 @@ impl Settled {
         }
     }
 
-    // Step 10. "Keep enclosing rows."
+    // Step 10. The rows that fit the measure (P1).
     pub fn by_weight(self, x: u32) -> Settled
         ensures { λ r. ⌜ r ≡ and-weight self x ⌝ }
     {
@@ -73,7 +73,7 @@ impl Settled {
             category: self.category,
             age,
             frequency,
-            weight: Filter::Encloses(Measure::Weight, x),
+            weight: Filter::FitsMeasure(Measure::Weight, x),
             surface,
         }
     }
@@ -89,7 +89,7 @@ impl Settled {
             age,
             frequency,
             weight,
-            surface: Filter::Encloses(Measure::Surface, x),
+            surface: Filter::FitsMeasure(Measure::Surface, x),
         }
     }
 

@@ -28,8 +28,8 @@ surface-traps =
     gives (put 6 blank K1) (106 ∷ 11 ∷ 0 ∷ 5 ∷ 7 ∷ 0 ∷ 0 ∷ 0 ∷ [])
     ∷ gives (put 6 999 K1) (119 ∷ 15 ∷ 0 ∷ 5 ∷ 7 ∷ 0 ∷ 0 ∷ 0 ∷ [])
     ∷ gives (put 6 1_000 K1) (100 ∷ 0 ∷ 0 ∷ 5 ∷ 7 ∷ 9 ∷ 0 ∷ 0 ∷ [])
-    ∷ gives (put 6 2_000 K1) (100 ∷ 0 ∷ 0 ∷ 5 ∷ 7 ∷ 9 ∷ 0 ∷ 0 ∷ [])
-    ∷ gives (put 6 2_001 K1) (119 ∷ 15 ∷ 0 ∷ 5 ∷ 7 ∷ 0 ∷ 0 ∷ 0 ∷ [])
+    ∷ gives (put 6 1_999 K1) (100 ∷ 0 ∷ 0 ∷ 5 ∷ 7 ∷ 9 ∷ 0 ∷ 0 ∷ [])
+    ∷ gives (put 6 2_000 K1) (119 ∷ 15 ∷ 0 ∷ 5 ∷ 7 ∷ 0 ∷ 0 ∷ 0 ∷ [])
     ∷ []
 
 -- so many rows for another age: "Over 512 rows of the category in 643: 120"

@@ -65,7 +65,7 @@ traps =
     -- "Matching count on one row and unit on another": 1 per 46 and 2 per 19 are no 1 per 19
     ∷ gives (for-patient 240 75_000 1) (115 ∷ 24 ∷ 0 ∷ 1500 ∷ 33784 ∷ 0 ∷ 0 ∷ 0 ∷ [])
     -- "Asking the weight because the category has kilogram rows, though age and frequency have removed them"
-    ∷ gives (for-patient 216 blank 1) (100 ∷ 3 ∷ 0 ∷ 1500 ∷ 33784 ∷ 3 ∷ 2 ∷ 0 ∷ [])
+    ∷ gives (for-patient 215 blank 1) (100 ∷ 3 ∷ 0 ∷ 1500 ∷ 33784 ∷ 3 ∷ 2 ∷ 0 ∷ [])
     -- "Taking the first unit row": ST is there twice, as base unit and as entered unit
     ∷ gives (for-dose 2_000 2_000 MG ST of-GPK 53015) (123 ∷ 0 ∷ 730 ∷ 0 ∷ 0 ∷ 0 ∷ 0 ∷ 0 ∷ [])
     ∷ gives (for-dose 2_000 2_000 ST MG of-GPK 53015) (123 ∷ 0 ∷ 730 ∷ 0 ∷ 0 ∷ 0 ∷ 0 ∷ 0 ∷ [])

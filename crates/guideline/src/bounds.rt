@@ -1,6 +1,6 @@
 // The bounds of a row of table 643.
 ghost use mathlib.Core.Path.{_≡_};
-ghost use Rattle.guideline.specs.Values.{bounds-in-range, encloses, matters};
+ghost use Rattle.guideline.specs.Values.{bounds-in-range, fits, matters};
 use crate::both;
 use crate::either;
 
@@ -20,13 +20,17 @@ impl Bounds {
         both(self.low <= self.high, self.high <= Bounds::NO_BOUND)
     }
 
-    // Both ends counted. Months in thousandths take more than 32 bits.
-    pub fn enclose(self, x: u64) -> bool
-        ensures { λ r. ⌜ r ≡ encloses self x ⌝ }
+    // P1: "from its low bound up to but not including its high bound"; "equal bounds .. its one value". Months in thousandths take more than 32 bits.
+    pub fn fit(self, x: u64) -> bool
+        ensures { λ r. ⌜ r ≡ fits self x ⌝ }
     {
+        let one_value = both(self.low == self.high, x == self.high as u64);
         both(
             self.low as u64 <= x,
-            either(self.high == Bounds::NO_BOUND, x <= self.high as u64),
+            either(
+                x < self.high as u64,
+                either(self.high == Bounds::NO_BOUND, one_value),
+            ),
         )
     }
 

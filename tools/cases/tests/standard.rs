@@ -1,7 +1,7 @@
 //! The standard run reaches every test, and so do the stored vectors; wrong programs are told, each by a small case.
 
 use cases::generate::calls::call_case;
-use cases::generate::{self, calls::CallCase, case::Case, full, proof_table::k_case};
+use cases::generate::{self, calls::CallCase, case::Case, full, proof_table};
 use cases::run::cover::{Coverage, Seen};
 use cases::run::difference::Report;
 use cases::run::searches::{self, Searches};
@@ -52,9 +52,11 @@ fn the_stored_files_are_these_vectors() {
     let file = |name: &str| fs::read(format!("{}/../../crates/{name}", env!("CARGO_MANIFEST_DIR"))).expect(name);
     let (stdin, stdout) = store::stream(&STORED);
     assert!(file("answers/stdin") == stdin && file("answers/stdout") == stdout, "run tools/store-cases");
-    assert!(stdin.starts_with(&k_case().bytes()));
+    assert!(stdin.starts_with(&proof_table::with(&proof_table::K[..proof_table::BEFORE_P1]).bytes()));
     assert!(
-        STORED.len() == store::CASES + store::key_cases().len() && store::CASES >= 3_000 && stdin.len() < 5_000_000
+        STORED.len() == store::CASES + store::key_cases().len() + store::p1_cases().len()
+            && store::CASES >= 3_000
+            && stdin.len() < 5_000_000
     );
     let units = store::unit_input();
     assert!(file("unit_list/stdin").starts_with(&units), "run tools/store-cases");
@@ -81,14 +83,16 @@ fn full_categories_are_stored() {
             continue;
         }
         let number = |place: usize| entry[place] as u64;
-        let encloses = |row: &[u64], low: usize, number: u64| {
-            row[low] <= number && (number <= row[low + 1] || row[low + 1] == 999_999)
+        // P1: from the low end to below the high end, or the one value of equal ends
+        let within = |row: &[u64], low: usize, number: u64| {
+            let (low, high) = (row[low], row[low + 1]);
+            low <= number && (number < high || high == 999_999) || low == high && number == low
         };
         let fits = |row: &&&[u64]| {
-            encloses(row, 1, 1_000 * number(AGE))
+            within(row, 1, 1_000 * number(AGE))
                 && (row[3], row[4]) == (number(COUNT), number(TIME_UNIT))
-                && encloses(row, 5, number(WEIGHT))
-                && encloses(row, 7, number(SURFACE))
+                && within(row, 5, number(WEIGHT))
+                && within(row, 7, number(SURFACE))
         };
         let rises = rows.cells.chunks_exact(10).is_sorted_by_key(|row| row[0]);
         let alone = of_category.len() == rows.count();

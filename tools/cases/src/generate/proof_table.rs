@@ -1,4 +1,4 @@
-//! Document 01's proof table, with K1 to K15 and the answers it gives.
+//! Document 01's proof table, with K1 to K15 and the answers it gives, as document 02, P1, changes them.
 
 use super::case::{Case, Numbers};
 use second::check::entry::*;
@@ -46,21 +46,21 @@ pub fn k1() -> Numbers {
     entry
 }
 
-/// A K case: its name, its changes from K1, and the eight numbers document 01 gives.
+/// A K case: its name, its changes from K1, and the eight numbers that it gets.
 pub type K = (&'static str, &'static [(usize, u32)], [u32; 8]);
 
-pub const K: [K; 22] = [
+pub const K: [K; 23] = [
     ("K1", &[], [100, 0, 0, 1500, 33_784, 1, 0, 0]),
     ("K2", &[(LOWEST, 2_001), (HIGHEST, 2_001)], [100, 1, 0, 1500, 33_784, 1, 1, 0]),
     ("K3, 3,000", &[(LOWEST, 3_000), (HIGHEST, 3_000)], [100, 1, 0, 1500, 33_784, 1, 1, 0]),
     ("K3, 3,001", &[(LOWEST, 3_001), (HIGHEST, 3_001)], [100, 3, 0, 1500, 33_784, 1, 2, 0]),
     ("K4", &[(LOWEST, 499), (HIGHEST, 3_001)], [100, 3, 0, 1500, 33_784, 1, 2, 1]),
     ("K5", &[(WEIGHT, BLANK)], [105, 10, 0, 1500, 33_784, 0, 0, 0]),
-    ("K6", &[(WEIGHT, 70_000)], [123, 0, 643, 1500, 33_784, 0, 0, 0]),
+    ("K6", &[(WEIGHT, 70_000)], [100, 0, 0, 1500, 33_784, 1, 0, 0]),
     ("K7", &[(WEIGHT, 80_001)], [118, 14, 0, 1500, 33_784, 0, 0, 0]),
     ("K8", &[(GPK, 900_001), (AGE, BLANK)], [101, 12, 0, 0, 0, 0, 0, 0]),
     ("K9", &[(AGE, 1_080)], [100, 0, 0, 1500, 33_784, 1, 0, 0]),
-    ("K10", &[(AGE, 216), (COUNT, 1)], [100, 3, 0, 1500, 33_784, 3, 2, 0]),
+    ("K10", &[(AGE, 216), (COUNT, 1)], [115, 24, 0, 1500, 33_784, 0, 0, 0]),
     ("K11, count", &[(COUNT, 3)], [115, 24, 0, 1500, 33_784, 0, 0, 0]),
     ("K11, unit", &[(TIME_UNIT, 46)], [116, 25, 0, 1500, 33_784, 0, 0, 0]),
     ("K11, both", &[(COUNT, 3), (TIME_UNIT, 46)], [117, 8, 0, 1500, 33_784, 0, 0, 0]),
@@ -72,7 +72,11 @@ pub const K: [K; 22] = [
     ("K15, care 2", &[(REASON, 5_000), (CARE, 2)], [100, 0, 0, 1500, 33_790, 5, 0, 0]),
     ("K15, care 2, weight blank", &[(REASON, 5_000), (CARE, 2), (WEIGHT, BLANK)], [100, 0, 0, 1500, 33_790, 5, 0, 0]),
     ("K13, weight known", &[(CARE, 2)], [100, 0, 0, 1500, 33_790, 5, 0, 0]),
+    ("P1, weight 80,000", &[(WEIGHT, 80_000)], [118, 14, 0, 1500, 33_784, 0, 0, 0]),
 ];
+
+/// Those that were there before P1: what was stored then has no others.
+pub const BEFORE_P1: usize = 22;
 
 pub fn changed(changes: &[(usize, u32)]) -> Numbers {
     let mut entry = k1();
@@ -84,7 +88,11 @@ pub fn changed(changes: &[(usize, u32)]) -> Numbers {
 
 /// The proof table with all K cases as its entries.
 pub fn k_case() -> Case {
+    with(&K)
+}
+
+pub fn with(ks: &[K]) -> Case {
     let mut case = tables();
-    case.entries = K.iter().map(|k| changed(k.1)).collect();
+    case.entries = ks.iter().map(|k| changed(k.1)).collect();
     case
 }

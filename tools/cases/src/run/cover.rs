@@ -1,7 +1,9 @@
 //! How often each test gave its answer, and each step went each of its ways.
 
 use super::answers_of;
+use super::lies::{lies, Lies};
 use crate::generate::case::{Case, Numbers};
+use crate::generate::joints::Bounded;
 use crate::generate::order::{keys, Order};
 use second::check::entry::{BASE_UNIT, CODE, ENTERED_UNIT, GPK, HIGHEST, ICPCTO, LOWEST, MAY_BE_BLANK, RANGES};
 use second::check::fields::LOW_BOUNDS;
@@ -65,6 +67,8 @@ pub enum Seen {
     /// high, low, GPRISC
     Verdict(u32, u32, u32),
     Dose(Limit, Near),
+    /// A datum to the bounds of a row that a filter looked at.
+    Lies(Bounded, Lies),
     /// A table that was searched, of three rows or more, in which a key has several.
     Order(Table, Order),
     /// A key looked for in a table of three rows or more.
@@ -84,7 +88,8 @@ impl Coverage {
         let orders = Table::ALL.map(|table| order(case, table));
         for (answer, entry) in answers_of(case).iter().zip(&case.entries) {
             self.entries += 1;
-            for seen in seen(answer, entry).into_iter().chain(searches(answer, entry, &orders)) {
+            let lies = lies(case, answer, entry).into_iter().map(|(of, lies)| Seen::Lies(of, lies));
+            for seen in seen(answer, entry).into_iter().chain(searches(answer, entry, &orders)).chain(lies) {
                 *self.counts.entry(seen).or_default() += 1;
             }
         }
@@ -219,6 +224,9 @@ pub fn required() -> Vec<Seen> {
     use Near::*;
     for limit in [Limit::Minimum, Limit::Maximum, Limit::Absolute] {
         all.extend([NoLimit, Below, FractionBelow, Equal, FractionAbove, Above].map(|near| Seen::Dose(limit, near)));
+    }
+    for of in Bounded::ALL {
+        all.extend(Lies::ALL.into_iter().filter(|lies| lies.can_occur(of)).map(|lies| Seen::Lies(of, lies)));
     }
     for table in Table::ALL {
         all.extend(Order::ALL.map(|order| Seen::Order(table, order)));

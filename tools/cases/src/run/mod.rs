@@ -7,6 +7,7 @@ pub mod cover_calls;
 pub mod demand3;
 pub mod difference;
 pub mod edges;
+pub mod lies;
 pub mod program;
 pub mod searches;
 pub mod show;

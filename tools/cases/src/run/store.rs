@@ -5,6 +5,7 @@ use super::smallest::unit_file::UnitFile;
 use super::{answers_of_bytes, edges};
 use crate::generate::calls::{call_case, stream as stream_of, CallCase};
 use crate::generate::case::Case;
+use crate::generate::joints::{self, Bounded};
 use crate::generate::order::Order;
 use crate::generate::{self, chains, full, proof_table, FULL_640, TOO_LONG_640};
 use crate::random::Random;
@@ -28,15 +29,17 @@ const FILLING_BYTES: usize = 1_000;
 const UNIT_FILES: u64 = 400;
 
 /// K1 to K15 first; a table that is full and one that is too long; the chosen cases; others.
-/// Behind them the cases that look for keys, added later: those before stay as they were.
+/// Behind them the cases that look for keys, and those of P1, added later: those before stay as they were.
 pub fn cases() -> Vec<Case> {
     let mut cases = first_cases();
     cases.extend(key_cases());
+    cases.extend(p1_cases());
     cases
 }
 
 fn first_cases() -> Vec<Case> {
-    let mut cases = vec![proof_table::k_case(), generate::made(SEED, FULL_640), generate::made(SEED, TOO_LONG_640)];
+    let first = proof_table::with(&proof_table::K[..proof_table::BEFORE_P1]);
+    let mut cases = vec![first, generate::made(SEED, FULL_640), generate::made(SEED, TOO_LONG_640)];
     let chosen = numbers(CHOSEN_CASES);
     let made = |number: &u64| generate::light_made(SEED, *number);
     cases.extend(chosen.iter().map(made));
@@ -62,6 +65,22 @@ pub fn key_cases() -> Vec<Case> {
     }
     let r = &mut Random::of_case(SEED, 0);
     cases.extend((0..full::VARIANTS).map(|variant| full::full(variant, r)));
+    cases
+}
+
+/// A dose a fraction above the absolute maximum: the older cases that have one lie on a high end, and P1 ends them
+/// before it.
+const FRACTION_ABOVE: (u64, usize) = (1_494, 3);
+
+/// The proof table as P1 has it; rows that meet, for age, weight and surface; what P1 took from the older cases.
+pub fn p1_cases() -> Vec<Case> {
+    let mut cases = vec![proof_table::k_case()];
+    cases.extend(Bounded::ALL.map(joints::each));
+    let (number, entry) = FRACTION_ABOVE;
+    let mut raised = generate::light_made(SEED, number);
+    raised.entries = vec![raised.entries[entry]];
+    joints::raise(&mut raised);
+    cases.push(raised);
     cases
 }
 

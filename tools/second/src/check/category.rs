@@ -9,9 +9,16 @@ pub const NO_UPPER: u32 = 999_999;
 
 pub type Rows<'t> = Vec<&'t Row643>;
 
-/// Both ends counted.
-pub fn enclosed(low: u32, high: u32, number: u32) -> bool {
-    low <= number && (number <= high || high == NO_UPPER)
+/// Document 02, P1: a row fits from its low bound up to but not including its high bound. A high bound of 999,999 means
+/// none, and equal bounds below that fit their one value.
+pub fn fits(low: u32, high: u32, number: u32) -> bool {
+    if high == NO_UPPER {
+        return low <= number;
+    }
+    if low == high {
+        return number == low;
+    }
+    low <= number && number < high
 }
 
 pub fn of_age(t643: &[Row643], category: u32, age: u32) -> Result<Rows<'_>, Test> {
@@ -20,7 +27,7 @@ pub fn of_age(t643: &[Row643], category: u32, age: u32) -> Result<Rows<'_>, Test
         return Err(Test::CategoryTooLong);
     }
     let thousandths = age * 1_000;
-    let rows: Rows = of_category.into_iter().filter(|row| enclosed(row.gpdlfm, row.gpdlfx, thousandths)).collect();
+    let rows: Rows = of_category.into_iter().filter(|row| fits(row.gpdlfm, row.gpdlfx, thousandths)).collect();
     if rows.is_empty() {
         return Err(Test::AgeNoRow);
     }

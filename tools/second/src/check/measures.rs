@@ -1,6 +1,6 @@
 //! Step 10: weight, then surface.
 
-use super::category::{enclosed, Rows, NO_UPPER};
+use super::category::{fits, Rows, NO_UPPER};
 use super::entry::Entry;
 use super::tables::Row643;
 use super::test::Test;
@@ -39,14 +39,14 @@ fn matters(of: &Measure, rows: &[&Row643]) -> bool {
     rows.iter().map(|row| (of.bounds)(row)).any(|(low, high)| low > 0 || high < NO_UPPER)
 }
 
-/// The enclosing rows, where the measure matters; all rows, where it does not.
+/// The rows that fit, where the measure matters; all rows, where it does not.
 fn keep<'t>(of: &Measure, rows: &[&'t Row643], matters: bool, number: Option<u32>) -> Result<Rows<'t>, Test> {
     if !matters {
         return Ok(rows.to_vec());
     }
     let number = number.ok_or(of.missing)?;
-    let fits = |(low, high): (u32, u32)| enclosed(low, high, number);
-    let kept: Rows = rows.iter().copied().filter(|row| fits((of.bounds)(row))).collect();
+    let fitting = |(low, high): (u32, u32)| fits(low, high, number);
+    let kept: Rows = rows.iter().copied().filter(|row| fitting((of.bounds)(row))).collect();
     if kept.is_empty() {
         return Err(of.no_row);
     }

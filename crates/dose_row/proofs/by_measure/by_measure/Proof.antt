@@ -9,9 +9,9 @@ use Rattle.guideline.specs.declared.refusals.Ending.{Ending}
 use Rattle.guideline.specs.declared.refusals.Question.{Question}
 use Rattle.guideline.specs.declared.refusals.Refusal.the-variants.{Asks, Ends}
 use Rattle.guideline.specs.Ask.{Chosen, Refused}
-use Rattle.guideline.specs.Values.{encloses}
+use Rattle.guideline.specs.Values.{fits}
 use Rattle.cells.proofs.Views.{narrowed-first, narrowed-fits}
-use Rattle.filter.specs.declared.Filter.the-variants.{Encloses, Matters}
+use Rattle.filter.specs.declared.Filter.the-variants.{FitsMeasure, Matters}
 use Rattle.filter.specs.Filters.{measure-bounds}
 use Rattle.dose_row.specs.Measured.{question-of, ending-of, other-filter}
 use Rattle.dose_row.specs.Settled.{and-measure, kept}
@@ -54,10 +54,10 @@ returns-3 c =
     let x = at-given .value .given .0 .0 in
     let t = kept l (a .v) (a .s) in
     let needed = first-some l (a .v) (a .s) (Matters (a .m)) (at-matters .first .ensures) (at-if .if1 .left) in
-    let none-left = first-none l (a .v) (a .s) (Encloses (a .m) x) (at-first .first2 .ensures) (omega arith) in
+    let none-left = first-none l (a .v) (a .s) (FitsMeasure (a .m) x) (at-first .first2 .ensures) (omega arith) in
     λ d e.
     measure-given (question-of (a .m)) (ending-of (a .m)) (measure-bounds (a .m)) t d needed (e ∙ at-given .value .given .1)
-    ∙ narrow-none (λ r. encloses (measure-bounds (a .m) r) x) t d (ending-of (a .m)) none-left
+    ∙ narrow-none (λ r. fits (measure-bounds (a .m) r) x) t d (ending-of (a .m)) none-left
     ∙ ap (λ (n : Ending). Refused (Ends n) tt) (sym (c .ending-of .ensures))
 
 narrow-requires : tie.Need-narrow-requires
@@ -84,14 +84,14 @@ returns-4 c =
     let i = at-first .first2 .result in
     let t = kept l (a .v) (a .s) in
     let needed = first-some l (a .v) (a .s) (Matters (a .m)) (at-matters .first .ensures) (at-if .if1 .left) in
-    let some-left = first-some l (a .v) (a .s) (Encloses (a .m) x) (at-first .first2 .ensures) (λ e. omega arith) in
-    let fits = narrowed-fits i (a .v .rows) (at-first .first2 .ensures .0) (omega arith) (at-start .pre .0) in
-    let left = narrowed-kept l (a .v) (a .s) (and-measure (a .s) (a .m) x) (Encloses (a .m) x) (measure-joins (a .m) (a .s) x (at-start .pre .1)) (at-first .first2 .ensures) (at-narrow .narrow .ensures) (c .by-measure .ensures) in (
-      rw (at-narrow .narrow .ensures) fits,
+    let some-left = first-some l (a .v) (a .s) (FitsMeasure (a .m) x) (at-first .first2 .ensures) (λ e. omega arith) in
+    let inside = narrowed-fits i (a .v .rows) (at-first .first2 .ensures .0) (omega arith) (at-start .pre .0) in
+    let left = narrowed-kept l (a .v) (a .s) (and-measure (a .s) (a .m) x) (FitsMeasure (a .m) x) (measure-joins (a .m) (a .s) x (at-start .pre .1)) (at-first .first2 .ensures) (at-narrow .narrow .ensures) (c .by-measure .ensures) in (
+      rw (at-narrow .narrow .ensures) inside,
       ap (other-filter (a .m)) (c .by-measure .ensures) ∙ other-stays (a .m) (a .s) x,
       λ d e.
           measure-given (question-of (a .m)) (ending-of (a .m)) (measure-bounds (a .m)) t d needed (e ∙ at-given .value .given .1)
-          ∙ narrow-some (λ r. encloses (measure-bounds (a .m) r) x) t d (ending-of (a .m)) some-left
+          ∙ narrow-some (λ r. fits (measure-bounds (a .m) r) x) t d (ending-of (a .m)) some-left
           ∙ ap Chosen (sym left),
     )
 

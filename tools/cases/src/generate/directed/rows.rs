@@ -113,7 +113,7 @@ pub fn near_k1(r: &mut Random) -> Case {
     case.entries.push(proof_table::k1());
     vary::add(&mut case, r, 12);
     for _ in 0..4 {
-        let k = r.pick(&proof_table::K);
+        let k = r.pick(&proof_table::K[..proof_table::BEFORE_P1]);
         case.entries.push(proof_table::changed(k.1));
     }
     if r.percent(50) {
