@@ -105,9 +105,9 @@ fn what_fits_goes_to_the_check() {
 const UNITS_BEFORE: [u8; 8] = [1, 0, 0, 0, 0xCB, 0x4C, 0x03, 0]; // 1, 216267
 const UNITS_AFTER: [u8; 4] = [0x2F, 0x01, 0, 0]; // 303
 
-/// A number of the first of the sample's 21 entries, which end the stream.
+/// A number of the first of the sample's 22 entries, which end the stream.
 fn entry_number(heard: &[u8], place: usize) -> [u8; 4] {
-    let start = heard.len() - 21 * 20 * 4 + place * 4;
+    let start = heard.len() - 22 * 20 * 4 + place * 4;
     heard[start..start + 4].try_into().unwrap()
 }
 

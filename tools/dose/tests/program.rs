@@ -14,10 +14,10 @@ fn fails(room: &Room, lines: &str, words: &str) {
 fn too_few_and_too_many_lines() {
     let room = Room::new("too_few_and_too_many_lines");
     let lines = paper_lines();
-    let short = lines.lines().take(20).map(|line| format!("{line}\n")).collect::<String>();
-    fails(&room, &short, "wrote 20 lines for 21 entries");
-    fails(&room, "", "wrote 0 lines for 21 entries");
-    fails(&room, &format!("{lines}100 0 0 0 0 0 0 0\n"), "line 22 of the program");
+    let short = lines.lines().take(21).map(|line| format!("{line}\n")).collect::<String>();
+    fails(&room, &short, "wrote 21 lines for 22 entries");
+    fails(&room, "", "wrote 0 lines for 22 entries");
+    fails(&room, &format!("{lines}100 0 0 0 0 0 0 0\n"), "line 23 of the program");
     fails(&room, lines.trim_end(), "ended inside a line");
 }
 

@@ -36,8 +36,8 @@ const HIGHEST: usize = 14;
 const K1: [u32; 20] =
     [103136, BLANK, BLANK, 240, BLANK, 75000, BLANK, 3, 0, 0, 0, 2, 19, 2000, 2000, 233, 233, 0, 0, BLANK];
 
-/// Document 01's changes from K1, in the sample's order.
-const CHANGES: [&[(usize, u32)]; 21] = [
+/// Document 01's changes from K1, and P1's weight, in the sample's order.
+const CHANGES: [&[(usize, u32)]; 22] = [
     &[],
     &[(LOWEST, 2001), (HIGHEST, 2001)],
     &[(LOWEST, 3000), (HIGHEST, 3000)],
@@ -46,6 +46,7 @@ const CHANGES: [&[(usize, u32)]; 21] = [
     &[(WEIGHT, BLANK)],
     &[(WEIGHT, 70000)],
     &[(WEIGHT, 80001)],
+    &[(WEIGHT, 80000)],
     &[(GPK, 900001), (AGE, BLANK)],
     &[(AGE, 1080)],
     &[(AGE, 216), (COUNT, 1)],
@@ -138,7 +139,7 @@ fn entries_without_names_are_called_by_their_line() {
     assert!(
         csv.starts_with("line,answer,text,table,basis,category,rule,high,low\n2,100,0,0,1500,33784,1,0,0\n")
     );
-    assert_eq!(csv.lines().count(), 22);
+    assert_eq!(csv.lines().count(), 1 + CHANGES.len());
 }
 
 #[test]

@@ -56,7 +56,7 @@ pub fn raise(case: &mut Case) {
 }
 
 /// GPK, basis and category; no other row of a case has it. The rules follow it.
-const KEY: u64 = 6_000_000;
+pub const KEY: u64 = 6_000_000;
 
 type Band = (u64, u64);
 
