@@ -1,5 +1,6 @@
 -- P1, the reason for it: where two rows meet, no value fits both, and each value from the low bound of the first to below the high bound of the
--- next fits exactly one. So for age, weight and surface of two rows of table 643 of which the next passes 122. Assumes nothing.
+-- next fits exactly one. So for age (a value is 1,000 times the months), weight and surface of two rows of table 643 of which the next passes
+-- 122. Assumes nothing.
 use Prim.Native.Nat.{ℕ, _<_, _≤_}
 use mathlib.Core.Path.{_≡_, refl, sym, _∙_}
 use mathlib.Core.Bool.{Bool, true, false, not, _&&_, and-false, false≢true}
@@ -16,6 +17,7 @@ pub record Meet (first next : Bounds) : Type 0 where
   pub first-has-width : first .low < first .high
   pub next-has-width : next .low < next .high
 
+-- what is promised of them: one of two fits where the one does not and the other does
 pub record Parted (first next : Bounds) : Type 0 where
   pub never-both : (x : ℕ) → (fits first x && fits next x) ≡ false
   pub exactly-one : (x : ℕ) → first .low ≤ x → x < next .high → fits next x ≡ not (fits first x)
@@ -44,7 +46,7 @@ not-above-no-bound b h =
     leb-true (b .high) no-bound (unless-false (leb (b .high) no-bound) (λ z. false≢true (sym (let k : bounds-in-range b ≡ false = simp (z, and-false) in k) ∙ h)))
 
 module _ (first next : Bounds) (meet : Meet first next) (passes-122 : bounds-in-range next ≡ true) where
-  -- no high bound is above 999,999, so that the first has one
+  -- the next ends at 999,999 at most, so that the first ends below that
   first-from-joint : (x : ℕ) → next .low ≤ x → fits first x ≡ false
   first-from-joint x h =
       let top = not-above-no-bound next passes-122 in

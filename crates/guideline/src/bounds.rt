@@ -20,7 +20,7 @@ impl Bounds {
         both(self.low <= self.high, self.high <= Bounds::NO_BOUND)
     }
 
-    // P1: "from its low bound up to but not including its high bound"; "equal bounds .. its one value". Months in thousandths take more than 32 bits.
+    // P1: "from its low bound up to but not including its high bound". Months in thousandths take more than 32 bits.
     pub fn fit(self, x: u64) -> bool
         ensures { λ r. ⌜ r ≡ fits self x ⌝ }
     {
