@@ -57,10 +57,10 @@ pub fn light_case(seed: u64, number: u64) -> Case {
 
 /// The cases were made for rows that fit at both ends. In half of them the high ends that the first entry lies on are
 /// raised, so that it is found as before; in the others it lies on an end that does not count. A twelfth get rows that
-/// meet besides.
+/// meet besides. K1 to K15 and long tables, which may be full, are left alone.
 fn fitted(mut case: Case, seed: u64, number: u64) -> Case {
     let r = &mut Random::of_case(seed ^ 0x6669_7473, number);
-    if number.is_multiple_of(ROUND) {
+    if number % ROUND <= *LONG_CASES.end() {
         return case;
     }
     if r.percent(50) {
