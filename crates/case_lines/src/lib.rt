@@ -1,16 +1,18 @@
 // From the bytes of a case to its lines, entry by entry.
 ghost use mathlib.Core.Path.{_≡_};
-ghost use Prim.Native.Nat.{_≤_};
+ghost use Prim.Native.Nat.{_+_, _≤_, _<_};
 ghost use lib.ListN.{length};
-ghost use Rattle.guideline.specs.Bytes.{lents, spelled};
-ghost use Rattle.guideline.specs.Check.{check};
-ghost use Rattle.stream.specs.Cases.{case-length, tables-of};
-ghost use Rattle.case_lines.specs.Lines.{Fitting, test-of, Ready, Answered};
-use guideline::answer::Answer;
-use guideline::entries::Entry;
+ghost use Rattle.decimals.specs.Put.{Put};
+ghost use Rattle.guideline.specs.Bytes.{lents};
+ghost use Rattle.stream.specs.Cases.{tables-of, tables-end, entry-count, Whole};
+ghost use Rattle.case_lines.specs.Lines.{Fitting, test-of, lines-of, longest-text, Ready, Answered};
 use guideline::rows::TableName;
 use ranges::sound::Soundness;
+use stream::cases::Form;
 use stream::cases::table;
+
+pub mod range;
+pub mod single;
 
 // The tables of a case are tested once for all its entries, or by the check where there is one.
 pub enum Test {
@@ -26,7 +28,7 @@ pub struct Progress {
 }
 
 pub fn test_tables(case: &[u8]) -> Test
-    requires { ⌜ case-length (now case) ≤ length (now case) ⌝ }
+    requires { ⌜ tables-end (now case) ≤ length (now case) ⌝ }
     ensures { λ r. ⌜ r ≡ test-of (now (case .entry)) ⌝ }
 {
     if stream::cases::entry_count(case) <= 1 {
@@ -42,7 +44,21 @@ pub fn test_tables(case: &[u8]) -> Test
     ))
 }
 
-fn answer(
+// Room for what any entry gets.
+pub fn longest(form: Form) -> usize
+    ensures { λ r. ⌜ r ≡ longest-text form ⌝ }
+{
+    match form {
+        Form::Single => stream::lines::LONGEST,
+        Form::Range => range::LONGEST,
+    }
+}
+
+// What entry i gets, over the tables of the case.
+fn put_entry(
+    form: Form,
+    case: &[u8],
+    i: usize,
     test: Test,
     t640: &[u8],
     t641: &[u8],
@@ -50,19 +66,25 @@ fn answer(
     t643: &[u8],
     t649: &[u8],
     t730: &[u8],
-    e: Entry,
-) -> Answer
-    requires { ⌜ Fitting test (lents (now t640) (now t641) (now t642) (now t643) (now t649) (now t730)) ⌝ }
-    ensures { λ r. ⌜ r ≡ check (spelled (lents (now (t640 .entry)) (now (t641 .entry)) (now (t642 .entry)) (now (t643 .entry)) (now (t649 .entry)) (now (t730 .entry)))) e ⌝ }
+    out: &mut [u8],
+    at: usize,
+) -> usize
+    requires { ⌜ Whole form (now case) × (i < entry-count (now case)) × Fitting test (tables-of (now case)) × (lents (now t640) (now t641) (now t642) (now t643) (now t649) (now t730) ≡ tables-of (now case)) × (at + longest-text form ≤ length (now out)) ⌝ }
+    ensures { λ r. ⌜ Put (now (out .entry)) at (lines-of form (now (case .entry)) i) (now (out .exit)) r × (r ≤ at + longest-text form) ⌝ }
 {
-    match test {
-        Test::ByCheck => dosecheck::check(t640, t641, t642, t643, t649, t730, e),
-        Test::Once(s) => dosecheck::check_after(s, t640, t641, t642, t643, t649, t730, e),
+    let e = stream::cases::entry(form, case, i);
+    match form {
+        Form::Single => single::put(test, t640, t641, t642, t643, t649, t730, e, out, at),
+        Form::Range => {
+            let w = stream::cases::wanted_of(case, i);
+            range::put(test, t640, t641, t642, t643, t649, t730, e, w, out, at)
+        }
     }
 }
 
 // Over the tables of the case.
 fn put_lines(
+    form: Form,
     case: &[u8],
     test: Test,
     t640: &[u8],
@@ -75,23 +97,35 @@ fn put_lines(
     out: &mut [u8],
     at: usize,
 ) -> Progress
-    requires { ⌜ Ready (now case) test from (length (now out)) at × (lents (now t640) (now t641) (now t642) (now t643) (now t649) (now t730) ≡ tables-of (now case)) ⌝ }
-    ensures { λ r. ⌜ Answered (now (case .entry)) from (now (out .entry)) at (now (out .exit)) r ⌝ }
+    requires { ⌜ Ready form (now case) test from (length (now out)) at × (lents (now t640) (now t641) (now t642) (now t643) (now t649) (now t730) ≡ tables-of (now case)) ⌝ }
+    ensures { λ r. ⌜ Answered form (now (case .entry)) from (now (out .entry)) at (now (out .exit)) r ⌝ }
 {
     let n = stream::cases::entry_count(case);
+    let longest = longest(form);
     let mut i = from;
     let mut end = at;
     while i < n {
-        if out.len() - end < stream::lines::LONGEST {
+        if out.len() - end < longest {
             return Progress {
                 next: i,
                 end,
                 more: true,
             };
         }
-        let e = stream::cases::entry(case, i);
-        let a = answer(test, t640, t641, t642, t643, t649, t730, e);
-        end = stream::lines::put_line(a, out, end);
+        end = put_entry(
+            form,
+            case,
+            i,
+            test,
+            t640,
+            t641,
+            t642,
+            t643,
+            t649,
+            t730,
+            out,
+            end,
+        );
         i += 1;
     }
     Progress {
@@ -101,10 +135,17 @@ fn put_lines(
     }
 }
 
-// The lines of an entry and of those behind it, at a place of a lent buffer, as long as any line has room.
-pub fn lines(case: &[u8], test: Test, from: usize, out: &mut [u8], at: usize) -> Progress
-    requires { ⌜ Ready (now case) test from (length (now out)) at ⌝ }
-    ensures { λ r. ⌜ Answered (now (case .entry)) from (now (out .entry)) at (now (out .exit)) r ⌝ }
+// What an entry and those behind it get, at a place of a lent buffer, as long as there is room for what any entry gets.
+pub fn lines(
+    form: Form,
+    case: &[u8],
+    test: Test,
+    from: usize,
+    out: &mut [u8],
+    at: usize,
+) -> Progress
+    requires { ⌜ Ready form (now case) test from (length (now out)) at ⌝ }
+    ensures { λ r. ⌜ Answered form (now (case .entry)) from (now (out .entry)) at (now (out .exit)) r ⌝ }
 {
     let t640 = table(case, TableName::T640);
     let t641 = table(case, TableName::T641);
@@ -113,6 +154,7 @@ pub fn lines(case: &[u8], test: Test, from: usize, out: &mut [u8], at: usize) ->
     let t649 = table(case, TableName::T649);
     let t730 = table(case, TableName::T730);
     put_lines(
+        form,
         case,
         test,
         t640,

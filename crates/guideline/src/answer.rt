@@ -1,5 +1,6 @@
 // The answer: its numbers, what is reached on the way to it, and what a comparison says.
 ghost use mathlib.Core.Path.{_≡_};
+ghost use Rattle.guideline.specs.Check.{numbers-of};
 ghost use Rattle.guideline.specs.Steps.{nothing, to-basis, to-category, to-rule};
 use crate::context::Context;
 use crate::rows::Row641;
@@ -15,6 +16,26 @@ pub struct Answer {
     pub rule: u32,
     pub high: u32,
     pub low: u32,
+}
+
+impl Answer {
+    pub const LENGTH: usize = 8;
+
+    // The one list of the numbers in the code.
+    pub fn numbers(self) -> [u32; Answer::LENGTH]
+        ensures { λ r. ⌜ r ≡ numbers-of self ⌝ }
+    {
+        [
+            self.answer,
+            self.text,
+            self.table,
+            self.basis,
+            self.category,
+            self.rule,
+            self.high,
+            self.low,
+        ]
+    }
 }
 
 // What the steps have chosen so far; 0 is not reached.

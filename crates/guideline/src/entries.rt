@@ -1,5 +1,6 @@
 // One prescription to be checked.
 ghost use mathlib.Core.Path.{_≡_};
+ghost use Rattle.guideline.specs.Entries.{with-count};
 ghost use Rattle.guideline.specs.Values.{switched};
 
 // The six data that an entry may leave blank.
@@ -43,6 +44,17 @@ impl Switch {
 pub struct Entry {
     pub known: Data,
     pub rest: Prescription,
+}
+
+impl Entry {
+    pub fn with_count(self, count: u32) -> Entry
+        ensures { λ r. ⌜ r ≡ with-count count self ⌝ }
+    {
+        let known = self.known;
+        let mut rest = self.rest;
+        rest.count = count;
+        Entry { known, rest }
+    }
 }
 
 pub struct Data {

@@ -1,14 +1,17 @@
 -- The tables and the entries of a case stand one behind the other, inside a case that is whole. Assumes nothing.
 use Prim.Native.Nat.{ℕ, zero, suc, _+_, _*_, _-_, _≤_, _<_}
-use mathlib.Core.Bool.{Bool, true, false, cond}
-use mathlib.Core.Path.{_≡_, refl}
+use mathlib.Core.Bool.{Bool, true, false, cond, _&&_}
+use mathlib.Core.Path.{_≡_, refl, sym, _∙_}
 use mathlib.Core.List.{List}
 use native.Mathlib.Omega.{arith}
-use borrow.Author.Tests.{leb-true, leb-false}
-use lib.Dec.{leb}
+use native.Mathlib.Nat.{mul-le-mul-right, suc-mul}
+use borrow.Author.Tests.{le-leb, leb-true, leb-false, ltb-true, ltb-false}
+use lib.Dec.{leb, ltb}
 use lib.ListN.{length}
 use Rattle.stream.specs.Entries.{number, entry-length}
-use Rattle.stream.specs.Cases.{table-count, front-length, longest-case, sum-of, start, entry-count, case-length, read-on, what-next}
+use Rattle.stream.specs.Cases.{table-count, front-length, longest-case, sum-of, start, tables-end, entry-count, entry-size, entry-start, wanted-of, most-places, lists-short, lendable, case-length, Whole, read-on, what-next}
+use Rattle.stream.specs.declared.cases.Form.{Form}
+use Rattle.stream.specs.declared.cases.Form.the-variants.{Single, Range}
 use Rattle.stream.specs.declared.cases.Next.the-variants.{Read, Answer, Broken}
 
 pub start-next : (b : List ℕ) (k : ℕ) → start b (suc k) ≡ start b k + number b 0 k
@@ -28,17 +31,65 @@ start-rises b j k h =
     let s : sum-of j (number b 0) ≤ sum-of k (number b 0) = rw e at (sum-rises (number b 0) j (k - j)) in
     omega arith
 
-pub front-inside : (b : List ℕ) → case-length b ≤ length b → front-length ≤ length b
-unfolding case-length start
+pub front-inside : (b : List ℕ) → tables-end b ≤ length b → front-length ≤ length b
+unfolding start
 front-inside b h = omega arith
 
-pub table-inside : (b : List ℕ) (k : ℕ) → k < table-count → case-length b ≤ length b → start b k + number b 0 k ≤ length b
-unfolding case-length
+pub table-inside : (b : List ℕ) (k : ℕ) → k < table-count → tables-end b ≤ length b → start b k + number b 0 k ≤ length b
 table-inside b k h w = omega (arith, start-next b k, start-rises b (suc k) table-count h)
 
-pub entry-inside : (b : List ℕ) (i : ℕ) → i < entry-count b → case-length b ≤ length b → start b table-count + i * entry-length + entry-length ≤ length b
-unfolding case-length
-entry-inside b i h w = omega arith
+pub tables-inside : (f : Form) (b : List ℕ) → case-length f b ≤ length b → tables-end b ≤ length b
+unfolding case-length entry-start
+tables-inside f b h = omega arith
+
+-- the entries stand one behind the other, and behind the last the case ends
+pub entry-inside : (f : Form) (b : List ℕ) (i : ℕ) → i < entry-count b → case-length f b ≤ length b → entry-start f b i + entry-size f ≤ length b
+unfolding case-length entry-start
+entry-inside f b i h w =
+    let m : suc i * entry-size f ≤ entry-count b * entry-size f = mul-le-mul-right (entry-size f) h in
+    omega (arith, suc-mul i (entry-size f))
+
+-- as many entries as a number of 32 bits counts
+pub size-most : (f : Form) (n : ℕ) → n < 4_294_967_296 → n * entry-size f < 4_294_967_296 * 128
+size-most Single n h = omega arith
+size-most Range n h = omega arith
+
+pub size-least : (f : Form) → entry-length ≤ entry-size f
+size-least Single = omega arith
+size-least Range = omega arith
+
+and-left : (s t : Bool) → (s && t) ≡ true → s ≡ true
+and-left true t h = refl
+and-left false t h = h
+
+and-right : (s t : Bool) → (s && t) ≡ true → t ≡ true
+and-right true t h = h
+and-right false t h = absurd (let z : _≡_ {A = ℕ} 0 1 = cc in let y : ⊥ = omega arith in y)
+
+-- where all lists are short, each is
+pub list-short : (b : List ℕ) (n i : ℕ) → i < n → lists-short b n ≡ true → wanted-of b i .places ≤ most-places
+unfolding lists-short
+list-short b zero i h t = absurd (let y : ⊥ = omega arith in y)
+list-short b (suc n) i h t = go (λ k. list-short b n i k (and-left (lists-short b n) (leb (wanted-of b n .places) most-places) t)) (ltb i n) refl
+  where
+    go : (i < n → wanted-of b i .places ≤ most-places) → (s : Bool) → ltb i n ≡ s → wanted-of b i .places ≤ most-places
+    go before true e = before (ltb-true i n e)
+    go before false e =
+        let k : i ≡ n = omega (arith, ltb-false i n e) in
+        rw k (leb-true (wanted-of b n .places) most-places (and-right (lists-short b n) (leb (wanted-of b n .places) most-places) t))
+
+pub list-long : (b : List ℕ) (n i : ℕ) → i < n → most-places < wanted-of b i .places → lists-short b n ≡ false
+list-long b n i h l = go (lists-short b n) (list-short b n i h)
+  where
+    go : (s : Bool) → (s ≡ true → wanted-of b i .places ≤ most-places) → s ≡ false
+    go true short = absurd (let y : ⊥ = omega (arith, short refl) in y)
+    go false short = refl
+
+pub next-short : (b : List ℕ) (i next : ℕ) → next ≡ i + 1 → lists-short b i ≡ true → wanted-of b i .places ≤ most-places → lists-short b next ≡ true
+unfolding lists-short
+next-short b i next n h l =
+    let s : next ≡ suc i = omega arith in
+    rw (s, h) (le-leb (wanted-of b i .places) most-places l)
 
 -- a case is answered where it is whole
 not-answer : (ended : Bool) (have until : ℕ) → read-on ended have until ≡ Answer → ⊥
@@ -46,15 +97,16 @@ not-answer true zero until h = let z : _≡_ {A = ℕ} 0 1 = cc in omega arith
 not-answer true (suc n) until h = let z : _≡_ {A = ℕ} 0 1 = cc in omega arith
 not-answer false have until h = let z : _≡_ {A = ℕ} 0 1 = cc in omega arith
 
-pub answer-whole : (b : List ℕ) (ended : Bool) → what-next b ended ≡ Answer → case-length b ≤ length b
+pub answer-whole : (f : Form) (b : List ℕ) (ended : Bool) → what-next f b ended ≡ Answer → Whole f b
 unfolding what-next
-answer-whole b ended = go (leb front-length (length b)) (leb (case-length b) longest-case) (leb (case-length b) (length b)) (leb-true (case-length b) (length b))
+answer-whole f b ended = go (leb front-length (length b)) (leb (case-length f b) longest-case) (leb (case-length f b) (length b)) (lendable f b) (leb-true (case-length f b) (length b)) (λ e. e)
   where
-    go : (front fits whole : Bool) → (whole ≡ true → case-length b ≤ length b) → cond front (cond fits (cond whole Answer (read-on ended (length b) (case-length b))) Broken) (read-on ended (length b) front-length) ≡ Answer → case-length b ≤ length b
-    go true true true k h = k refl
-    go true true false k h = absurd (not-answer ended (length b) (case-length b) h)
-    go true false whole k h = absurd (let z : _≡_ {A = ℕ} 0 1 = cc in let y : ⊥ = omega arith in y)
-    go false fits whole k h = absurd (not-answer ended (length b) front-length h)
+    go : (front most whole lists : Bool) → (whole ≡ true → case-length f b ≤ length b) → (lists ≡ true → lendable f b ≡ true) → cond front (cond most (cond whole (cond lists Answer Broken) (read-on ended (length b) (case-length f b))) Broken) (read-on ended (length b) front-length) ≡ Answer → Whole f b
+    go true true true true k l h = record { inside = k refl; lists = l refl }
+    go true true true false k l h = absurd (let z : _≡_ {A = ℕ} 0 1 = cc in let y : ⊥ = omega arith in y)
+    go true true false lists k l h = absurd (not-answer ended (length b) (case-length f b) h)
+    go true false whole lists k l h = absurd (let z : _≡_ {A = ℕ} 0 1 = cc in let y : ⊥ = omega arith in y)
+    go false most whole lists k l h = absurd (not-answer ended (length b) front-length h)
 
 -- more is read only while the stream goes on, and never behind the longest case
 read-goes-on : (ended : Bool) (have until n : ℕ) → read-on ended have until ≡ Read n → (ended ≡ false) × (n ≡ until)
@@ -62,16 +114,17 @@ read-goes-on true zero until n h = absurd (let z : _≡_ {A = ℕ} 0 1 = cc in l
 read-goes-on true (suc k) until n h = absurd (let z : _≡_ {A = ℕ} 0 1 = cc in let y : ⊥ = omega arith in y)
 read-goes-on false have until n h = (refl, cc)
 
-pub read-inside : (b : List ℕ) (ended : Bool) (n : ℕ) → what-next b ended ≡ Read n → (ended ≡ false) × (length b < n) × (n ≤ longest-case)
+pub read-inside : (f : Form) (b : List ℕ) (ended : Bool) (n : ℕ) → what-next f b ended ≡ Read n → (ended ≡ false) × (length b < n) × (n ≤ longest-case)
 unfolding what-next
-read-inside b ended n = go (leb front-length (length b)) (leb (case-length b) longest-case) (leb (case-length b) (length b)) (leb-false front-length (length b)) (leb-true (case-length b) longest-case) (leb-false (case-length b) (length b))
+read-inside f b ended n = go (leb front-length (length b)) (leb (case-length f b) longest-case) (leb (case-length f b) (length b)) (lendable f b) (leb-false front-length (length b)) (leb-true (case-length f b) longest-case) (leb-false (case-length f b) (length b))
   where
-    go : (front fits whole : Bool) → (front ≡ false → length b < front-length) → (fits ≡ true → case-length b ≤ longest-case) → (whole ≡ false → length b < case-length b) → cond front (cond fits (cond whole Answer (read-on ended (length b) (case-length b))) Broken) (read-on ended (length b) front-length) ≡ Read n → (ended ≡ false) × (length b < n) × (n ≤ longest-case)
-    go true true true f k w h = absurd (let z : _≡_ {A = ℕ} 0 1 = cc in let y : ⊥ = omega arith in y)
-    go true true false f k w h =
-        let g = read-goes-on ended (length b) (case-length b) n h in
-        (g .0, omega (arith, g .1, w refl), omega (arith, g .1, k refl))
-    go true false whole f k w h = absurd (let z : _≡_ {A = ℕ} 0 1 = cc in let y : ⊥ = omega arith in y)
-    go false fits whole f k w h =
-        let g = read-goes-on ended (length b) front-length n h in
-        (g .0, omega (arith, g .1, f refl), omega (arith, g .1))
+    go : (front most whole lists : Bool) → (front ≡ false → length b < front-length) → (most ≡ true → case-length f b ≤ longest-case) → (whole ≡ false → length b < case-length f b) → cond front (cond most (cond whole (cond lists Answer Broken) (read-on ended (length b) (case-length f b))) Broken) (read-on ended (length b) front-length) ≡ Read n → (ended ≡ false) × (length b < n) × (n ≤ longest-case)
+    go true true true true g k w h = absurd (let z : _≡_ {A = ℕ} 0 1 = cc in let y : ⊥ = omega arith in y)
+    go true true true false g k w h = absurd (let z : _≡_ {A = ℕ} 0 1 = cc in let y : ⊥ = omega arith in y)
+    go true true false lists g k w h =
+        let r = read-goes-on ended (length b) (case-length f b) n h in
+        (r .0, omega (arith, r .1, w refl), omega (arith, r .1, k refl))
+    go true false whole lists g k w h = absurd (let z : _≡_ {A = ℕ} 0 1 = cc in let y : ⊥ = omega arith in y)
+    go false most whole lists g k w h =
+        let r = read-goes-on ended (length b) front-length n h in
+        (r .0, omega (arith, r .1, g refl), omega (arith, r .1))

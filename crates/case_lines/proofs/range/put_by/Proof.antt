@@ -1,0 +1,28 @@
+-- What stands in the list are the answers of the range check. Assumes nothing.
+use Prim.Native.Nat.{_*_}
+use borrow.Author.Needs.{needs}
+use denote.Ref.{now}
+use mathlib.Core.Path.{_≡_, refl, sym, _∙_}
+use native.Mathlib.Omega.{arith}
+use lib.ListN.{length}
+use Rattle.guideline.specs.Bytes.{lents, spelled}
+use Rattle.guideline.specs.Check.{answer-length}
+use Rattle.case_lines.proofs.Ranges.{short-list, lines-answered}
+use Rattle.case_lines.proofs.range.put_by.Statement.{statement}
+use Rattle.case_lines.proofs.range.put_by.Tie as tie
+
+put-counted-requires : tie.Need-put-counted-requires
+put-counted-requires c κs =
+    let a = c .before .before .before .before .before .before .before .before .before .before .before .before .before .before .args in
+    let answer = c .before .before .before .before .answer in
+    (short-list (lents (now (a .t640)) (now (a .t641)) (now (a .t642)) (now (a .t643)) (now (a .t649)) (now (a .t730))) (a .e) (a .w) (now (a .list)) _ (c .before .before .before .before .before .before .before .before .before .before .before .before .before .before .pre .1) (answer .result) (answer .ensures) (answer .kept .1 .1 .1 .1 .1 .1 .1 .1 .1 .1 .0), c .before .before .before .before .before .before .before .before .before .before .before .before .before .before .pre .2)
+
+returns : tie.Need-returns
+returns c =
+    let a = c .before .before .before .before .before .before .before .before .before .before .before .before .before .before .before .before .before .args in
+    let answer = c .before .before .before .before .before .before .before .answer in
+    let lines = lines-answered (lents (now (a .t640)) (now (a .t641)) (now (a .t642)) (now (a .t643)) (now (a .t649)) (now (a .t730))) (a .e) (a .w) (now (a .list)) _ (c .before .before .before .before .before .before .before .before .before .before .before .before .before .before .before .before .before .pre .1) (answer .result) (answer .ensures) in
+    (rw (← lines) (c .before .before .put-counted .ensures .0), c .before .before .put-counted .ensures .1)
+
+pub put-by-spec : {M : Type 1} → statement M
+put-by-spec = tie.close (tie.spec (λ c κs. search needs) put-counted-requires (λ c. search needs) (λ c. search needs) returns)

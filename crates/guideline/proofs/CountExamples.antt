@@ -1,0 +1,87 @@
+-- P2 on K1 of the proof table: "1 to 3 times a day", both ends of each refusal, and which of two faults is said. On rows and on bytes.
+use Prim.Native.Nat.{ℕ, zero, suc}
+use mathlib.Core.Bool.{Bool, true, _&&_}
+use mathlib.Core.List.{List, [], _∷_, _++_}
+use lib.Dec.{T, eqb}
+use Rattle.guideline.specs.Types.{Counted, Listed, RangeRefused}
+use Rattle.guideline.specs.Bytes.{spelled}
+use Rattle.guideline.specs.Entries.{read-entry}
+use Rattle.guideline.specs.Rows.{Tables}
+use Rattle.guideline.specs.Counts.{in-turn, counted, refusal-number, list-after}
+use Rattle.guideline.specs.ProofTable.{proof-table, rows-printed, bytes-printed, K1, put, same}
+use Rattle.guideline.proofs.Opened.{opened}
+
+-- a list of so many places, with two numbers that are no place; 7 stands in all of them
+abbrev sevens : ℕ → List ℕ
+sevens zero = 7 ∷ 7 ∷ []
+sevens (suc n) = 7 ∷ 7 ∷ 7 ∷ 7 ∷ 7 ∷ 7 ∷ 7 ∷ 7 ∷ sevens n
+
+-- a range of K1, with its own count changed: the refusal, and the list behind the call
+pub record Range : Type 0 where
+  pub own : ℕ
+  pub first : ℕ
+  pub last : ℕ
+  pub places : ℕ
+  pub refusal : ℕ
+  pub list : List ℕ
+
+abbrev range : ℕ → ℕ → ℕ → ℕ → ℕ → List ℕ → Range
+range own first last places refusal list = record { own = own; first = first; last = last; places = places; refusal = refusal; list = list }
+
+-- K1 has a row for twice a day alone
+abbrev other-count : List ℕ
+other-count = 115 ∷ 24 ∷ 0 ∷ 1500 ∷ 33784 ∷ 0 ∷ 0 ∷ 0 ∷ []
+
+abbrev twice : List ℕ
+twice = 100 ∷ 0 ∷ 0 ∷ 1500 ∷ 33784 ∷ 1 ∷ 0 ∷ 0 ∷ []
+
+-- a count of 0 or above 999
+abbrev no-count : List ℕ
+no-count = 125 ∷ 0 ∷ 0 ∷ 0 ∷ 0 ∷ 0 ∷ 0 ∷ 0 ∷ []
+
+unfoldable pub ranges : List Range
+ranges =
+    -- 1 to 3, in a list of just so many places, and in a longer one
+    range 2 1 3 3 0 (other-count ++ twice ++ other-count ++ sevens 0)
+    ∷ range 2 1 3 5 0 (other-count ++ twice ++ other-count ++ sevens 2)
+    -- one count; the entry's own is not looked at, be it in range or not
+    ∷ range 3 2 2 1 0 (twice ++ sevens 0)
+    ∷ range 0 2 2 2 0 (twice ++ sevens 1)
+    -- 125 at its place
+    ∷ range 2 0 2 3 0 (no-count ++ other-count ++ twice ++ sevens 0)
+    ∷ range 2 999 1_000 2 0 (other-count ++ no-count ++ sevens 0)
+    -- 131: the first above the last; before 132, and before 125
+    ∷ range 2 3 2 4 131 (sevens 4)
+    ∷ range 0 3 2 0 131 (sevens 0)
+    -- 131: over 16 counts, and not 16; 4,294,967,296 counts are no 0
+    ∷ range 2 1 17 17 131 (sevens 17)
+    ∷ range 2 1_000 1_015 16 0 (no-count ++ no-count ++ no-count ++ no-count ++ no-count ++ no-count ++ no-count ++ no-count ++ no-count ++ no-count ++ no-count ++ no-count ++ no-count ++ no-count ++ no-count ++ no-count ++ sevens 0)
+    ∷ range 2 0 4_294_967_295 1 131 (sevens 1)
+    -- 132: a place too few, none; before 125
+    ∷ range 2 1 3 2 132 (sevens 2)
+    ∷ range 2 2 2 0 132 (sevens 0)
+    ∷ range 0 1 16 15 132 (sevens 15)
+    ∷ []
+
+-- 0 where there is no refusal
+abbrev number : Counted → ℕ
+number (Listed n) = 0
+number (RangeRefused why) = refusal-number why
+
+abbrev holds : Tables → Range → Bool
+holds t r =
+    let e = read-entry (put 11 (r .own) K1) in
+    eqb (number (counted (r .first) (r .last) (r .places))) (r .refusal)
+    && same (list-after t e (r .first) (r .last) (sevens (r .places))) (r .list)
+
+abbrev pub all-hold : Tables → List Range → Bool
+all-hold t [] = true
+all-hold t (r ∷ l) = holds t r && all-hold t l
+
+pub counts-of-K1 : T (all-hold (rows-printed proof-table) ranges)
+unfolding opened in-turn counted list-after ranges
+counts-of-K1 = tt
+
+pub counts-of-K1-as-bytes : T (all-hold (spelled (bytes-printed proof-table)) ranges)
+unfolding opened in-turn counted list-after ranges
+counts-of-K1-as-bytes = tt
