@@ -1,10 +1,13 @@
 //! Commands of the cases.
 
-use cases::generate::{self, calls::CallCase, case::Case};
-use cases::run::compare::{self, input};
+use cases::generate::{self, calls::CallCase, case::Case, counts::CountCase};
+use cases::run::compare::{self, input, Programs};
 use cases::run::difference::Report;
 use cases::run::smallest::{unit_file::UnitFile, Piece};
-use cases::run::{again::again, cover, cover_calls, demand3, edges, searches, store, STANDARD_CASES, STANDARD_SEED};
+use cases::run::{
+    again::again, cover, cover_calls, cover_counts, demand3, edges, searches, store, store_counts, STANDARD_CASES,
+    STANDARD_SEED,
+};
 use std::io::{self, Write};
 use std::ops::Range;
 use std::path::Path;
@@ -13,19 +16,20 @@ use std::time::Instant;
 
 const HELP: &str = "cases: random and stored cases, and the comparison of a program with the second program on them
 
-  cases generate answers|units|calls RUN
-                                   the run's cases, unit files or calls of file 730 as one input
+  cases generate answers|counts|units|calls RUN
+                                   the run's cases, cases of ranges, unit files or calls of file 730 as one input
   cases cover RUN                  how often each test gave its answer; fails if one that can occur did not
   cases searches RUN               the case that first tells each wrong search; fails if one is not told
-  cases compare RUN [--answers PROGRAM] [--units PROGRAM] [--calls PROGRAM]
+  cases compare RUN [--answers PROGRAM] [--counts PROGRAM] [--units PROGRAM] [--calls PROGRAM]
                                    runs each PROGRAM on the run's cases, unit files or calls, and compares every line
-  cases again answers|units|calls PROGRAM FILE
+  cases again answers|counts|units|calls PROGRAM FILE
                                    compares PROGRAM on an input, and shows a difference
-  cases edges answers|units|calls PROGRAM
+  cases edges answers|counts|units|calls PROGRAM
                                    whole and damaged inputs
-  cases demand3 PROGRAM RUN        fills blanks and reorders rows, judges the answers of PROGRAM, and compares them
-  cases fill RUN                   the stream demand3 sends
-  cases store answers|broken|units|calls DIR
+  cases demand3 answers|counts PROGRAM RUN
+                                   fills blanks and reorders rows, judges the answers of PROGRAM, and compares them
+  cases fill answers|counts RUN    the stream demand3 sends
+  cases store answers|counts|broken|units|calls DIR
                                    stored vectors: DIR/stdin and DIR/stdout (broken: a folder for each)
 
 Of a difference the smallest case that is found is written into target/difference, or --folder FOLDER, and the command
@@ -42,6 +46,7 @@ struct Arguments {
     cases: u64,
     first: u64,
     answers: Option<String>,
+    counts: Option<String>,
     units: Option<String>,
     calls: Option<String>,
     folder: Option<String>,
@@ -49,6 +54,15 @@ struct Arguments {
 }
 
 impl Arguments {
+    fn programs(&self) -> Programs<'_> {
+        Programs {
+            answers: self.answers.as_deref(),
+            counts: self.counts.as_deref(),
+            units: self.units.as_deref(),
+            calls: self.calls.as_deref(),
+        }
+    }
+
     fn report(&self) -> Report<'_> {
         let folder = Path::new(self.folder.as_deref().unwrap_or("target/difference"));
         Report { folder, again: self.again.as_deref() }
@@ -70,6 +84,7 @@ fn arguments() -> Result<Arguments, String> {
             "--cases" => given.cases = number()?,
             "--first" => given.first = number()?,
             "--answers" => given.answers = Some(value),
+            "--counts" => given.counts = Some(value),
             "--units" => given.units = Some(value),
             "--calls" => given.calls = Some(value),
             "--folder" => given.folder = Some(value),
@@ -96,10 +111,10 @@ fn run(given: &Arguments) -> Result<(), String> {
     let numbers = given.first..given.first + given.cases;
     match words[..] {
         ["generate", of] => generated(of, given, numbers),
-        ["fill"] => io::stdout().write_all(&demand3::stream(given.seed, numbers)).map_err(failed),
+        ["fill", of] => io::stdout().write_all(&demand3::stream(of, given.seed, numbers)?).map_err(failed),
         ["cover"] => covered(given),
         ["searches"] => told(given),
-        ["compare"] if given.answers.is_none() && given.units.is_none() && given.calls.is_none() => {
+        ["compare"] if given.programs().are_none() => {
             Err("compare: no program is given, so that nothing would be compared; see cases --help".to_string())
         }
         ["compare"] => compared(given),
@@ -113,10 +128,10 @@ fn run(given: &Arguments) -> Result<(), String> {
             println!("{} whole and damaged inputs of {of} as expected", edges::run(program, &inputs)?);
             Ok(())
         }
-        ["demand3", program] => {
+        ["demand3", of, program] => {
             let start = Instant::now();
-            let judged = demand3::run(program, given.seed, numbers, &given.report())?;
-            println!("demand 3 holds, {} cases: {judged:?}, {:.0?}", given.cases, start.elapsed());
+            let judged = demand3::run(of, program, given.seed, numbers, &given.report())?;
+            println!("demand 3 holds through {of}, {} cases: {judged:?}, {:.0?}", given.cases, start.elapsed());
             Ok(())
         }
         ["store", what, dir] => stored(what, Path::new(dir)),
@@ -131,6 +146,7 @@ fn run(given: &Arguments) -> Result<(), String> {
 fn generated(of: &str, given: &Arguments, numbers: Range<u64>) -> Result<(), String> {
     let bytes = match of {
         Case::OF => input::<Case>(given.seed, numbers),
+        CountCase::OF => input::<CountCase>(given.seed, numbers),
         UnitFile::OF => input::<UnitFile>(given.seed, numbers),
         CallCase::OF => input::<CallCase>(given.seed, numbers),
         _ => return Err(format!("cannot generate {of}; see cases --help")),
@@ -143,15 +159,18 @@ fn covered(given: &Arguments) -> Result<(), String> {
     for number in given.first..given.first + given.cases {
         coverage.add(&generate::case(given.seed, number));
     }
+    let mut counts = cover_counts::Coverage::default();
     let mut calls = cover_calls::Coverage::default();
     for number in given.first..given.first + given.cases {
+        counts.add(&generate::counts::count_case(given.seed, number));
         calls.add(&generate::calls::call_case(given.seed, number));
     }
     coverage.print();
+    counts.print();
     calls.print();
-    match (&coverage.missing()[..], &calls.missing()[..]) {
-        ([], []) => Ok(()),
-        (cases, calls) => Err(format!("did not occur: {cases:?} {calls:?}")),
+    match (&coverage.missing()[..], &counts.missing()[..], &calls.missing()[..]) {
+        ([], [], []) => Ok(()),
+        (cases, counts, calls) => Err(format!("did not occur: {cases:?} {counts:?} {calls:?}")),
     }
 }
 
@@ -171,9 +190,7 @@ fn compared(given: &Arguments) -> Result<(), String> {
         first: given.first,
         cases: given.cases,
         quiet: false,
-        answers: given.answers.as_deref(),
-        units: given.units.as_deref(),
-        calls: given.calls.as_deref(),
+        programs: given.programs(),
         report: given.report(),
     })?;
     let time = start.elapsed();
@@ -184,6 +201,7 @@ fn compared(given: &Arguments) -> Result<(), String> {
 fn stored(what: &str, dir: &Path) -> Result<(), String> {
     let report = match what {
         "answers" => store::answers(dir),
+        "counts" => store_counts::counts(dir),
         "broken" => store::broken(dir).map(|count| format!("{count} streams")),
         "units" => store::units(dir).map(|count| format!("{count} records")),
         "calls" => store::calls(dir).map(|count| format!("{count} calls")),

@@ -5,11 +5,11 @@ use cases::generate::proof_table::{changed, k1, k_case, tables, K};
 use second::check::entry::*;
 use second::check::{check, Entry, Lent, Table};
 use second::record::{calls::calls, list::unit_list, read::read, write::write, Unit};
-use second::stream::answers;
+use second::stream::{answers::ANSWERS, run};
 
 fn lines(case: &Case) -> Vec<String> {
     let mut out = vec![];
-    answers(&case.bytes()[..], &mut out).expect("a slice is read and a vector written");
+    run(&ANSWERS, &case.bytes()[..], &mut out).expect("a slice is read and a vector written");
     String::from_utf8(out).expect("digits").lines().map(str::to_string).collect()
 }
 
@@ -286,7 +286,7 @@ fn the_unit_list_cuts_at_cr_lf_only() {
 fn a_case_is_whole_or_broken() {
     let stream = |bytes: &[u8]| {
         let mut out = vec![];
-        answers(bytes, &mut out).expect("a slice is read and a vector written");
+        run(&ANSWERS, bytes, &mut out).expect("a slice is read and a vector written");
         String::from_utf8(out).expect("text")
     };
     let mut case = tables();

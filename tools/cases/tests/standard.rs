@@ -1,16 +1,22 @@
 //! The standard run reaches every test, and so do the stored vectors; wrong programs are told, each by a small case.
 
 use cases::generate::calls::call_case;
-use cases::generate::{self, calls::CallCase, case::Case, full, proof_table};
+use cases::generate::counts::{count_case, CountCase};
+use cases::generate::{self, calls::CallCase, case::Case, full, proof_ranges, proof_table};
+use cases::run::compare::Programs;
 use cases::run::cover::{Coverage, Seen};
 use cases::run::difference::Report;
 use cases::run::searches::{self, Searches};
 use cases::run::smallest::unit_file::UnitFile;
-use cases::run::{again::again, compare, cover_calls, demand3, edges, store, STANDARD_CASES, STANDARD_SEED};
+use cases::run::{
+    again::again, compare, cover_calls, cover_counts, demand3, edges, store, store_counts, STANDARD_CASES,
+    STANDARD_SEED,
+};
 use second::check::entry::{AGE, COUNT, SURFACE, TIME_UNIT, WEIGHT};
 use second::check::test::Shape;
 use second::check::{Table, Test};
 use second::record::{calls::calls, list::unit_list};
+use second::stream::{counts::COUNTS, run};
 use std::fs;
 use std::os::unix::fs::PermissionsExt;
 use std::path::{Path, PathBuf};
@@ -35,6 +41,24 @@ fn every_call_has_each_outcome() {
     assert_eq!(coverage.missing(), []);
 }
 
+#[test]
+fn every_range_has_each_outcome() {
+    let mut coverage = cover_counts::Coverage::default();
+    for number in 0..STANDARD_CASES {
+        coverage.add(&count_case(STANDARD_SEED, number));
+    }
+    assert_eq!(coverage.missing(), []);
+}
+
+/// No table is too long in what is stored.
+#[test]
+fn the_stored_ranges_have_each_outcome() {
+    let mut coverage = cover_counts::Coverage::default();
+    store_counts::cases().iter().for_each(|case| coverage.add(case));
+    let too_long = |table: &Table| cover_counts::Seen::Test(Test::Shape(*table, Shape::TooLong));
+    assert_eq!(coverage.missing(), Table::ALL.iter().map(too_long).collect::<Vec<_>>());
+}
+
 static STORED: LazyLock<Vec<Case>> = LazyLock::new(store::cases);
 
 /// The stored vectors hold long tables of 640 alone.
@@ -46,10 +70,14 @@ fn the_stored_vectors_reach_every_test() {
     assert_eq!(coverage.missing(), Table::ALL[1..].iter().map(|table| too_long(*table)).collect::<Vec<Seen>>());
 }
 
+/// A stored file of a proved program.
+fn file(name: &str) -> Vec<u8> {
+    fs::read(format!("{}/../../crates/{name}", env!("CARGO_MANIFEST_DIR"))).expect(name)
+}
+
 /// What the gate runs the proved programs on: K1 to K15 first, thousands of cases, below 5 MB.
 #[test]
 fn the_stored_files_are_these_vectors() {
-    let file = |name: &str| fs::read(format!("{}/../../crates/{name}", env!("CARGO_MANIFEST_DIR"))).expect(name);
     let (stdin, stdout) = store::stream(&STORED);
     assert!(file("answers/stdin") == stdin && file("answers/stdout") == stdout, "run tools/store-cases");
     assert!(stdin.starts_with(&proof_table::with(&proof_table::K[..proof_table::BEFORE_P1]).bytes()));
@@ -67,12 +95,24 @@ fn the_stored_files_are_these_vectors() {
     assert_eq!(stdout.iter().filter(|c| **c == b'\n').count(), store::CALLS + 1);
 }
 
+/// K1 to K15 for 1, 2 and 3 first, and a broken case last, which by the second program has no line of its own.
+#[test]
+fn the_stored_ranges_are_these_vectors() {
+    let cases = store_counts::cases();
+    let (stdin, stdout) = store_counts::stream(&cases);
+    assert!(file("counts/stdin") == stdin && file("counts/stdout") == stdout, "run tools/store-cases");
+    assert!(stdin.starts_with(&proof_ranges::k_1_to_3().bytes()) && stdout.ends_with(b"\nbroken\n"));
+    assert!(cases.len() == store_counts::CASES && stdin.len() < 400_000);
+    let mut lines = vec![];
+    run(&COUNTS, &stdin[..], &mut lines).expect("a slice is read and a vector written");
+    assert!(lines == stdout);
+}
+
 /// Steps 7 and 11 at their bound, each where the keys of 643 rise and where they fall: all of 512 rows fit, one of
 /// 512, one of 513. What is to be answered is document 01's, and what is stored is read from the files.
 #[test]
 fn full_categories_are_stored() {
-    let name = "answers/stdout";
-    let file = fs::read_to_string(format!("{}/../../crates/{name}", env!("CARGO_MANIFEST_DIR"))).expect(name);
+    let file = String::from_utf8(file("answers/stdout")).expect("digits");
     let (key, mut lines, mut seen) = (full::KEY, file.lines(), vec![]);
     for case in STORED.iter() {
         let stored: Vec<&str> = lines.by_ref().take(case.entries.len()).collect();
@@ -152,20 +192,23 @@ fn wrong(of: &str, name: &str, filter: &str) -> String {
 const COMPARED: u64 = 12_000;
 
 /// How many lines were equal.
-fn comparison(room: &Path, answers: Option<&str>, units: Option<&str>, calls: Option<&str>) -> Result<u64, String> {
+fn comparison(room: &Path, of: &str, program: &str) -> Result<u64, String> {
     let report = Report { folder: room, again: None };
-    let run = compare::Run { seed: 77, first: 0, cases: COMPARED, quiet: true, answers, units, calls, report };
-    compare::run(&run).map(|equal| equal.entries + equal.records + equal.calls)
+    let given = |wanted: &str| (wanted == of).then_some(program);
+    let [answers, counts, units, calls] = ALL.map(given);
+    let programs = Programs { answers, counts, units, calls };
+    let run = compare::Run { seed: 77, first: 0, cases: COMPARED, quiet: true, programs, report };
+    compare::run(&run).map(|equal| equal.entries + equal.counts + equal.records + equal.calls)
 }
+
+/// The commands of the second program.
+const ALL: [&str; 4] = ["answers", "counts", "units", "calls"];
 
 #[test]
 fn the_program_agrees_with_itself() {
-    let [answers, units, calls] = ["answers", "units", "calls"].map(program);
     let room = room("itself");
-    let equal = |answers, units, calls| comparison(&room, answers, units, calls).expect("all equal");
-    assert!(equal(Some(&answers), Some(&units), None) > 5 * COMPARED);
-    assert!(equal(None, None, Some(&calls)) > COMPARED);
-    for of in ["answers", "units", "calls"] {
+    for (of, lines) in ALL.into_iter().zip([5 * COMPARED, 15 * COMPARED, 5 * COMPARED, COMPARED]) {
+        assert!(comparison(&room, of, &program(of)).expect("all equal") > lines, "{of}");
         let inputs = edges::inputs(of).expect(of);
         assert_eq!(edges::run(&program(of), &inputs), Ok(inputs.len()));
     }
@@ -174,8 +217,7 @@ fn the_program_agrees_with_itself() {
 /// The bytes of the smallest difference, which `again` must tell, and of which the right program must know nothing.
 fn told(of: &str, name: &str, filter: &str) -> (String, usize) {
     let (wrong, room) = (wrong(of, name, filter), room(name));
-    let program_of = |wanted: &str| (wanted == of).then_some(&wrong[..]);
-    let what = comparison(&room, program_of("answers"), program_of("units"), program_of("calls")).expect_err(name);
+    let what = comparison(&room, of, &wrong).expect_err(name);
     let file = room.join(of);
     assert!(what.ends_with(&format!("again {of} '{wrong}' {}", file.display())), "{what}");
     let bytes = fs::read(file).expect("the smallest difference");
@@ -199,7 +241,28 @@ fn a_wrong_check_is_told_by_a_small_case() {
     let (what, _) = told("answers", "bad-end", "awk '{ print } /^118 14 / { exit 3 }'");
     assert!(what.contains("ended with exit status: 3"), "{what}");
     assert_eq!(told("answers", "nothing", "cat >/dev/null").1, 28 + 80);
-    assert!(comparison(&room("no-program"), Some("no such program"), None, None).is_err());
+    assert!(comparison(&room("no-program"), "answers", "no such program").is_err());
+}
+
+/// A range of no places, or of no count, needs no row.
+const NO_ROW: usize = 28 + 92;
+
+#[test]
+fn a_wrong_range_is_told_by_a_small_case() {
+    let (what, length) = told("counts", "no-range", "sed 's/^131$/132/'");
+    assert_eq!(length, NO_ROW, "{what}");
+    // 1 to 0, or 0 to 16.
+    assert!(what.contains(", places 0\nsecond:  131\nprogram: 132\n"), "{what}");
+    let (what, length) = told("counts", "too-short", "sed '/^132$/d'");
+    assert_eq!(length, NO_ROW, "{what}");
+    assert!(what.contains("range:   counts 0 to 0, places 0\nsecond:  132\nprogram: (no line)\n"), "{what}");
+    let (what, length) = told("counts", "no-weight-in-range", "sed 's/^118 14 /114 13 /'");
+    assert_eq!(length, FOUR_ROWS + 12, "{what}");
+    assert!(what.contains("places 1\nsecond:  118 14 "), "{what}");
+    // The first of two answers said again: both lines are shown.
+    let (what, _) =
+        told("counts", "first-again", "awk '$1 == 100 && was == 115 { $0 = last } { was = $1; last = $0; print }'");
+    assert!(what.contains("places 2\nsecond:  115 ") && what.contains("\n         100 "), "{what}");
 }
 
 #[test]
@@ -216,16 +279,21 @@ fn a_wrong_record_is_told_by_a_small_input() {
 fn demand_3_holds_and_a_wrong_question_is_told() {
     let room = room("demand3");
     let report = Report { folder: &room, again: None };
-    let judged = demand3::run(&program("answers"), 5, 0..2_000, &report).expect("demand 3");
-    assert!(judged.fillings_of_the_question > 1_000 && judged.fillings_of_other_answers > 1_000, "{judged:?}");
-    let wrong = wrong("answers", "wrong-question", "sed 's/^105 10 /106 11 /'");
-    let what = demand3::run(&wrong, 5, 0..2_000, &report).expect_err("a wrong question");
-    assert!(what.starts_with("demand 3 is broken") && what.contains("106 asks for surface, which is given"), "{what}");
-    // One that is steady, and differs all the same.
-    let wrong = self::wrong("answers", "wrong-and-steady", "sed 's/^118 14 /118 15 /'");
-    let what = demand3::run(&wrong, 5, 0..2_000, &report).expect_err("a difference");
-    assert!(what.contains("differs") && what.contains("program: 118 15 "), "{what}");
-    assert_eq!(fs::read(room.join("answers")).map(|bytes| bytes.len()).ok(), Some(FOUR_ROWS));
+    for (of, bytes) in [("answers", FOUR_ROWS), ("counts", FOUR_ROWS + 12)] {
+        let judged = demand3::run(of, &program(of), 5, 0..2_000, &report).expect("demand 3");
+        assert!(judged.fillings_of_the_question > 1_000 && judged.fillings_of_other_answers > 1_000, "{judged:?}");
+        let wrong = |name: &str, filter: &str| wrong(of, &format!("{of}-{name}"), filter);
+        let wrong_question = wrong("wrong-question", "sed 's/^105 10 /106 11 /'");
+        let what = demand3::run(of, &wrong_question, 5, 0..2_000, &report).expect_err("a wrong question");
+        assert!(what.starts_with("demand 3 is broken"), "{what}");
+        assert!(what.contains("106 asks for surface, which is given"), "{what}");
+        // One that is steady, and differs all the same.
+        let steady = wrong("wrong-and-steady", "sed 's/^118 14 /118 15 /'");
+        let what = demand3::run(of, &steady, 5, 0..2_000, &report).expect_err("a difference");
+        assert!(what.contains("differs") && what.contains("program: 118 15 "), "{what}");
+        assert_eq!(fs::read(room.join(of)).map(|bytes| bytes.len()).ok(), Some(bytes));
+    }
+    assert!(demand3::run("units", &program("units"), 5, 0..1, &report).is_err());
 }
 
 #[test]
@@ -237,6 +305,8 @@ fn the_same_seed_gives_the_same_stream() {
     };
     assert_eq!(stream(3), stream(3));
     assert_ne!(stream(3), stream(4));
+    assert_eq!(compare::input::<CountCase>(3, 20..400), compare::input::<CountCase>(3, 20..400));
+    assert_ne!(compare::input::<CountCase>(3, 20..400), compare::input::<CountCase>(4, 20..400));
     assert_eq!(compare::input::<UnitFile>(3, 0..50), compare::input::<UnitFile>(3, 0..50));
     assert_eq!(compare::input::<CallCase>(3, 0..50), compare::input::<CallCase>(3, 0..50));
 }

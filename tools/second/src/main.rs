@@ -1,13 +1,14 @@
-//! The three programs that the proved ones are compared with.
+//! The programs that the proved ones are compared with.
 
 use second::record::{calls::calls, list::unit_list};
-use second::stream::answers;
+use second::stream::{answers::ANSWERS, counts::COUNTS, run, Program};
 use std::io::{self, BufReader, BufWriter, Read, Write};
 use std::process::ExitCode;
 
-const HELP: &str = "second: the dose check and file 730, written from document 01 alone
+const HELP: &str = "second: the dose check and file 730, written from the papers alone
 
   second answers    cases on standard input, one line of eight numbers per entry
+  second counts     cases whose entries have a range of counts, one line of eight numbers per count, or 131 or 132
   second units      the unit list of the records on standard input
   second calls      the calls of file 730 on standard input, one line for each
 ";
@@ -15,10 +16,8 @@ const HELP: &str = "second: the dose check and file 730, written from document 0
 fn main() -> ExitCode {
     let words: Vec<String> = std::env::args().skip(1).collect();
     let done = match words.iter().map(String::as_str).collect::<Vec<_>>()[..] {
-        ["answers"] => answers(
-            BufReader::with_capacity(1 << 16, io::stdin().lock()),
-            BufWriter::with_capacity(1 << 16, io::stdout().lock()),
-        ),
+        ["answers"] => cases(&ANSWERS),
+        ["counts"] => cases(&COUNTS),
         ["units"] => whole(unit_list),
         ["calls"] => whole(calls),
         ["--help"] => io::stdout().write_all(HELP.as_bytes()),
@@ -31,6 +30,11 @@ fn main() -> ExitCode {
             ExitCode::FAILURE
         }
     }
+}
+
+fn cases(program: &Program) -> io::Result<()> {
+    let input = BufReader::with_capacity(1 << 16, io::stdin().lock());
+    run(program, input, BufWriter::with_capacity(1 << 16, io::stdout().lock()))
 }
 
 fn whole(lines: fn(&[u8]) -> Vec<u8>) -> io::Result<()> {

@@ -97,14 +97,17 @@ impl Case {
 
     /// The case as it stands in the stream.
     pub fn write(&self, out: &mut Vec<u8>) {
+        self.write_front(out);
+        self.entries.iter().for_each(|entry| push_numbers(entry, out));
+    }
+
+    /// What stands before the entries.
+    pub fn write_front(&self, out: &mut Vec<u8>) {
         for rows in &self.tables {
             out.extend((rows.length() as u32).to_le_bytes());
         }
         out.extend((self.entries.len() as u32).to_le_bytes());
         self.tables.iter().for_each(|rows| rows.bytes(out));
-        for entry in &self.entries {
-            entry.iter().for_each(|number| out.extend(number.to_le_bytes()));
-        }
     }
 
     pub fn bytes(&self) -> Vec<u8> {
@@ -115,8 +118,15 @@ impl Case {
 
     /// The case at the front of a stream, if it is whole.
     pub fn take(stream: &mut &[u8]) -> Option<Case> {
+        let (mut case, entries) = Case::take_front(stream, ENTRY)?;
+        case.entries = entries.chunks_exact(ENTRY).map(numbers).collect();
+        Some(case)
+    }
+
+    /// The case without its entries, and their bytes, so many for each.
+    pub fn take_front<'b>(stream: &mut &'b [u8], entry: usize) -> Option<(Case, &'b [u8])> {
         let header = Header::new(stream.first_chunk::<HEADER>()?);
-        let (case, behind) = stream.split_at_checked(header.case() as usize)?;
+        let (case, behind) = stream.split_at_checked(header.case(entry) as usize)?;
         *stream = behind;
         let (tables, entries) = parts(&header, &case[HEADER..]);
         let read = |table: Table| {
@@ -125,6 +135,10 @@ impl Case {
             let cells = rows.flat_map(|row| (0..table.fields().len()).map(|place| cell(table, row, place))).collect();
             Rows { table, cells, tail }
         };
-        Some(Case { tables: Table::ALL.map(read), entries: entries.chunks_exact(ENTRY).map(numbers).collect() })
+        Some((Case { tables: Table::ALL.map(read), entries: vec![] }, entries))
     }
+}
+
+pub fn push_numbers(numbers: &[u32], out: &mut Vec<u8>) {
+    numbers.iter().for_each(|number| out.extend(number.to_le_bytes()));
 }

@@ -2,7 +2,7 @@
 
 use super::difference::{difference, Report};
 use super::smallest::{compared, unit_file::UnitFile, Outcome, Piece};
-use crate::generate::{calls::CallCase, case::Case};
+use crate::generate::{calls::CallCase, case::Case, counts::CountCase};
 use std::ops::Range;
 use std::time::Instant;
 
@@ -16,23 +16,39 @@ pub struct Run<'a> {
     pub first: u64,
     pub cases: u64,
     pub quiet: bool,
-    pub answers: Option<&'a str>,
-    pub units: Option<&'a str>,
-    pub calls: Option<&'a str>,
+    pub programs: Programs<'a>,
     pub report: Report<'a>,
 }
 
-/// Lines that were equal: one for each entry, one for each record of the unit files, one for each call of file 730.
+/// The programs that are compared.
+#[derive(Clone, Copy, Default)]
+pub struct Programs<'a> {
+    pub answers: Option<&'a str>,
+    pub counts: Option<&'a str>,
+    pub units: Option<&'a str>,
+    pub calls: Option<&'a str>,
+}
+
+impl Programs<'_> {
+    pub fn are_none(&self) -> bool {
+        [self.answers, self.counts, self.units, self.calls].iter().all(Option::is_none)
+    }
+}
+
+/// Lines that were equal: one for each entry, one for each count of a range or its refusal, one for each record of the
+/// unit files, one for each call of file 730.
 #[derive(Default)]
 pub struct Equal {
     pub entries: u64,
+    pub counts: u64,
     pub records: u64,
     pub calls: u64,
 }
 
 impl std::fmt::Display for Equal {
     fn fmt(&self, f: &mut std::fmt::Formatter) -> std::fmt::Result {
-        write!(f, "{} entries, {} unit records and {} calls", self.entries, self.records, self.calls)
+        let Equal { entries, counts, records, calls } = self;
+        write!(f, "{entries} entries, {counts} lines of ranges, {records} unit records and {calls} calls")
     }
 }
 
@@ -43,15 +59,11 @@ pub fn run(run: &Run) -> Result<Equal, String> {
     let end = run.first + run.cases;
     for (batch, first) in (run.first..end).step_by(BATCH as usize).enumerate() {
         let numbers = first..end.min(first + BATCH);
-        if let Some(program) = run.answers {
-            equal.entries += lines::<Case>(run, program, numbers.clone())?;
-        }
-        if let Some(program) = run.units {
-            equal.records += lines::<UnitFile>(run, program, numbers.clone())?;
-        }
-        if let Some(program) = run.calls {
-            equal.calls += lines::<CallCase>(run, program, numbers)?;
-        }
+        let Programs { answers, counts, units, calls } = run.programs;
+        equal.entries += lines::<Case>(run, answers, numbers.clone())?;
+        equal.counts += lines::<CountCase>(run, counts, numbers.clone())?;
+        equal.records += lines::<UnitFile>(run, units, numbers.clone())?;
+        equal.calls += lines::<CallCase>(run, calls, numbers)?;
         if batch as u64 % PROGRESS == PROGRESS - 1 && !run.quiet {
             let done = end.min(first + BATCH) - run.first;
             eprintln!("{done} of {} cases, {equal} equal, {:.0?}", run.cases, start.elapsed());
@@ -60,8 +72,9 @@ pub fn run(run: &Run) -> Result<Equal, String> {
     Ok(equal)
 }
 
-/// The number of lines that were equal.
-fn lines<P: Piece>(run: &Run, program: &str, numbers: Range<u64>) -> Result<u64, String> {
+/// The number of lines that were equal; none without a program.
+fn lines<P: Piece>(run: &Run, program: Option<&str>, numbers: Range<u64>) -> Result<u64, String> {
+    let Some(program) = program else { return Ok(0) };
     let ordered = P::in_order(run.seed, numbers.clone());
     let pieces: Vec<P> = ordered.iter().map(|number| P::of_run(run.seed, *number)).collect();
     let found = match compared(program, &pieces)? {

@@ -1,17 +1,14 @@
 //! Demand 3 by brute force over another program: blanks filled, rows in another order.
 
 use super::difference::{difference, Report};
+use super::fillings::{filling, Fillable, Filled, Filling, DATA};
 use super::smallest::{compared, Outcome, Piece};
 use super::{answers_of, program, show};
-use crate::generate;
 use crate::generate::case::{Case, Numbers};
-use crate::random::Random;
-use second::check::entry::*;
+use crate::generate::counts::CountCase;
+use second::check::entry::{BLANK, RANGES};
 use second::check::Test;
 use std::ops::Range;
-
-/// The data an entry may leave blank, each with its question.
-const DATA: [(usize, u32); 6] = [(AGE, 101), (SEX, 102), (HPK, 103), (PRK, 104), (WEIGHT, 105), (SURFACE, 106)];
 
 /// What a program that breaks demand 3 is told by.
 const BROKEN: &str = "demand 3 is broken";
@@ -21,83 +18,26 @@ const BATCH: u64 = 2_500;
 /// Batches between two lines of progress.
 const PROGRESS: usize = 4;
 
-/// Several permitted values of a datum.
-fn values(datum: usize, r: &mut Random, case: &Case) -> Vec<u32> {
-    let column = |table: usize, place: usize, over: u64| {
-        let rows = &case.tables[table];
-        rows.cells.chunks_exact(rows.width()).map(|row| (row[place] / over) as u32).take(4).collect::<Vec<u32>>()
-    };
-    let (_, low, high) = RANGES[datum];
-    let mut values = match datum {
-        SEX => vec![],
-        PRK | HPK => column(1, datum, 1),
-        AGE => [column(3, 1, 1_000), column(3, 2, 1_000)].concat(),
-        WEIGHT => [column(3, 5, 1), column(3, 6, 1)].concat(),
-        _ => [column(3, 7, 1), column(3, 8, 1)].concat(),
-    };
-    values.extend([low, high, r.between(low as u64, high as u64) as u32]);
-    values.retain(|value| (low..=high).contains(value));
-    values.sort();
-    values.dedup();
-    values
-}
-
-/// An entry that stands for another with one datum filled: the place of the other, and the datum.
-#[derive(Clone, Copy)]
-struct Filled {
-    of: usize,
-    datum: usize,
-}
-
-/// A case with its entries, each followed by itself with each blank filled, and how they hang together.
-struct Filling {
-    number: u64,
-    case: Case,
-    filled: Vec<Option<Filled>>,
-    shuffled: Case,
-}
-
-fn filling(seed: u64, number: u64) -> Filling {
-    let r = &mut Random::of_case(!seed, number);
-    let mut case = generate::light_case(seed, number);
-    let entries: Vec<Numbers> = std::mem::take(&mut case.entries);
-    let mut filled = vec![];
-    for mut entry in entries {
-        // More blanks than the generator gives, so that each question is met.
-        if r.percent(50) {
-            entry[r.pick(&DATA).0] = BLANK;
-        }
-        let of = case.entries.len();
-        case.entries.push(entry);
-        filled.push(None);
-        for (datum, _) in DATA.into_iter().filter(|(datum, _)| entry[*datum] == BLANK) {
-            for value in values(datum, r, &case) {
-                let mut given = entry;
-                given[datum] = value;
-                case.entries.push(given);
-                filled.push(Some(Filled { of, datum }));
-            }
-        }
-        if entry[MONTHS] == BLANK {
-            let mut given = entry;
-            given[MONTHS] = MONTHS_ON;
-            case.entries.push(given);
-            filled.push(Some(Filled { of, datum: MONTHS }));
-        }
-    }
-    let mut shuffled = case.clone();
-    shuffled.shuffle(r);
-    Filling { number, case, filled, shuffled }
-}
-
 /// Each case with its entries filled, followed by itself with its rows in another order.
-fn pieces(fillings: &[Filling]) -> Vec<Case> {
-    fillings.iter().flat_map(|filling| [filling.case.clone(), filling.shuffled.clone()]).collect()
+fn pieces<P: Fillable>(fillings: &[Filling<P>]) -> Vec<P> {
+    fillings.iter().flat_map(|filling| filling.sent.clone()).collect()
 }
 
-/// The stream of filled entries.
-pub fn stream(seed: u64, cases: Range<u64>) -> Vec<u8> {
-    Case::joined(&pieces(&cases.map(|number| filling(seed, number)).collect::<Vec<Filling>>()))
+fn fillings<P: Fillable>(seed: u64, numbers: Range<u64>) -> Vec<Filling<P>> {
+    numbers.map(|number| filling(seed, number)).collect()
+}
+
+/// The stream of filled entries that a program of this kind is sent.
+pub fn stream(of: &str, seed: u64, cases: Range<u64>) -> Result<Vec<u8>, String> {
+    match of {
+        Case::OF => Ok(Case::joined(&pieces(&fillings(seed, cases)))),
+        CountCase::OF => Ok(CountCase::joined(&pieces(&fillings(seed, cases)))),
+        _ => Err(unknown(of)),
+    }
+}
+
+fn unknown(of: &str) -> String {
+    format!("demand 3 is not judged through {of}; see cases --help")
 }
 
 /// How many answers were judged, by kind.
@@ -110,19 +50,27 @@ pub struct Judged {
     pub reordered: u64,
 }
 
-/// Judges the program's answers by themselves, and then compares them with those of the second program.
-pub fn run(of: &str, seed: u64, cases: Range<u64>, report: &Report) -> Result<Judged, String> {
+/// Judges the answers of a program of this kind by themselves, and then compares them with those of the second program.
+pub fn run(of: &str, program: &str, seed: u64, cases: Range<u64>, report: &Report) -> Result<Judged, String> {
+    match of {
+        Case::OF => run_of::<Case>(program, seed, cases, report),
+        CountCase::OF => run_of::<CountCase>(program, seed, cases, report),
+        _ => Err(unknown(of)),
+    }
+}
+
+fn run_of<P: Fillable>(of: &str, seed: u64, cases: Range<u64>, report: &Report) -> Result<Judged, String> {
     let mut judged = Judged::default();
     for (batch, first) in cases.clone().step_by(BATCH as usize).enumerate() {
         if batch > 0 && batch.is_multiple_of(PROGRESS) {
             eprintln!("demand 3: {} of {} cases", first - cases.start, cases.end - cases.start);
         }
         let numbers = first..cases.end.min(first + BATCH);
-        let fillings: Vec<Filling> = numbers.map(|number| filling(seed, number)).collect();
+        let fillings: Vec<Filling<P>> = fillings(seed, numbers);
         let pieces = pieces(&fillings);
-        let lines = program::lines(of, &Case::joined(&pieces))?;
+        let lines = program::lines(of, &P::joined(&pieces))?;
         judge_all(of, seed, &fillings, &lines, &mut judged)?;
-        if lines.join("\n").as_bytes() == Case::lines(&pieces).concat().trim_ascii_end() {
+        if lines.join("\n").as_bytes() == P::lines(&pieces).concat().trim_ascii_end() {
             continue;
         }
         if let Outcome::Differs(found) = compared(of, &pieces)? {
@@ -134,7 +82,13 @@ pub fn run(of: &str, seed: u64, cases: Range<u64>, report: &Report) -> Result<Ju
     Ok(judged)
 }
 
-fn judge_all(of: &str, seed: u64, fillings: &[Filling], lines: &[String], judged: &mut Judged) -> Result<(), String> {
+fn judge_all<P: Fillable>(
+    of: &str,
+    seed: u64,
+    fillings: &[Filling<P>],
+    lines: &[String],
+    judged: &mut Judged,
+) -> Result<(), String> {
     let mut rest = lines;
     for filling in fillings {
         let (number, count) = (filling.number, filling.case.entries.len());
@@ -142,7 +96,7 @@ fn judge_all(of: &str, seed: u64, fillings: &[Filling], lines: &[String], judged
             return Err(format!("{of}: lines missing from case {number} of seed {seed} on"));
         }
         judge(filling, &rest[..count], &rest[count..2 * count], judged)
-            .map_err(|what| format!("{BROKEN} by {of}, seed {seed}: {what}\n{}", repeat(of, seed, number)))?;
+            .map_err(|what| format!("{BROKEN} by {of}, seed {seed}: {what}\n{}", repeat::<P>(of, seed, number)))?;
         rest = &rest[2 * count..];
     }
     match rest {
@@ -151,11 +105,11 @@ fn judge_all(of: &str, seed: u64, fillings: &[Filling], lines: &[String], judged
     }
 }
 
-fn repeat(of: &str, seed: u64, number: u64) -> String {
-    format!("repeat: {} demand3 '{of}' --seed {seed} --first {number} --cases 1", program::this())
+fn repeat<P: Fillable>(of: &str, seed: u64, number: u64) -> String {
+    format!("repeat: {} demand3 {} '{of}' --seed {seed} --first {number} --cases 1", program::this(), P::OF)
 }
 
-fn judge(filling: &Filling, lines: &[String], reordered: &[String], judged: &mut Judged) -> Result<(), String> {
+fn judge<P>(filling: &Filling<P>, lines: &[String], reordered: &[String], judged: &mut Judged) -> Result<(), String> {
     let places: Vec<Test> = answers_of(&filling.case).iter().map(|answer| answer.test).collect();
     for place in 0..lines.len() {
         judged.reordered += 1;
@@ -202,7 +156,7 @@ fn judge_filled(asked: &str, line: &str, datum: usize, later: bool, judged: &mut
     }
 }
 
-fn told(filling: &Filling, lines: &[String], what: &str, place: usize, of: usize) -> String {
+fn told<P>(filling: &Filling<P>, lines: &[String], what: &str, place: usize, of: usize) -> String {
     let tables = show::tables(&filling.case);
     let entry = |place: usize| show::entry(&filling.case.entries[place]);
     format!(

@@ -1,12 +1,12 @@
 //! Whole and damaged streams of cases and of calls: where a stream may end, and how long a case or a call may be.
 
-use super::program;
+use super::{edges_counts, program};
 use crate::generate::proof_table::{k1, tables};
 use second::check::Table;
 use second::stream::{CASE_MOST, HEADER};
 
 const ANSWER: &str = "100 0 0 1500 33784 1 0 0\n";
-const BROKEN: &str = "broken\n";
+pub const BROKEN: &str = "broken\n";
 
 /// A name, a stream, and the output it must give.
 pub type Edge = (String, Vec<u8>, String);
@@ -163,6 +163,7 @@ pub fn unit_files() -> Vec<Edge> {
 pub fn inputs(of: &str) -> Option<Vec<Edge>> {
     match of {
         "answers" => Some(streams()),
+        "counts" => Some(edges_counts::streams()),
         "units" => Some(unit_files()),
         "calls" => Some(call_streams()),
         _ => None,

@@ -49,7 +49,7 @@ fn first_cases() -> Vec<Case> {
     cases
 }
 
-fn numbers(list: &str) -> Vec<u64> {
+pub(super) fn numbers(list: &str) -> Vec<u64> {
     list.split_whitespace().map(|number| number.parse().expect("a list of numbers")).collect()
 }
 
@@ -84,7 +84,7 @@ pub fn p1_cases() -> Vec<Case> {
     cases
 }
 
-fn write(dir: &Path, stdin: &[u8], stdout: &[u8]) -> io::Result<()> {
+pub(super) fn write(dir: &Path, stdin: &[u8], stdout: &[u8]) -> io::Result<()> {
     fs::create_dir_all(dir)?;
     fs::write(dir.join("stdin"), stdin)?;
     fs::write(dir.join("stdout"), stdout)

@@ -34,16 +34,20 @@ impl Answer {
         Answer { numbers, test: Test::Compared, ways: found.ways, compared: Some(compared) }
     }
 
-    /// Eight numbers with one space between, ended by a line feed.
     pub fn line(&self, out: &mut Vec<u8>) {
-        for (place, number) in self.numbers.iter().enumerate() {
-            if place > 0 {
-                out.push(b' ');
-            }
-            push_number(out, *number as u64);
-        }
-        out.push(b'\n');
+        push_line(&self.numbers, out);
     }
+}
+
+/// Numbers with one space between, ended by a line feed.
+pub fn push_line(numbers: &[u32], out: &mut Vec<u8>) {
+    for (place, number) in numbers.iter().enumerate() {
+        if place > 0 {
+            out.push(b' ');
+        }
+        push_number(out, *number as u64);
+    }
+    out.push(b'\n');
 }
 
 /// A number in digits, no zeros in front.

@@ -3,6 +3,7 @@
 mod answer;
 mod category;
 pub mod cells;
+pub mod counts;
 pub mod entry;
 pub mod fields;
 mod frequency;
@@ -18,7 +19,7 @@ mod text;
 mod unit;
 mod ways;
 
-pub use answer::{push_number, Answer};
+pub use answer::{push_line, push_number, Answer};
 pub use entry::Entry;
 pub use limits::Compared;
 pub use tables::Lent;

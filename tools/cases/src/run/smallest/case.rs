@@ -47,15 +47,7 @@ impl Piece for Case {
             case.entries = vec![self.entries[place]];
             case
         });
-        let rows = Table::ALL.into_iter().flat_map(|table| without_rows(self, table));
-        let tails = Table::ALL.into_iter().filter(|table| !self.tables[*table as usize].tail.is_empty()).map(|table| {
-            let mut case = self.clone();
-            case.rows(table).tail.pop();
-            case
-        });
-        let all: usize = self.tables.iter().map(|rows| rows.count()).sum();
-        let numbers = (all <= ROWS_MOST).then(|| with_smaller_numbers(self)).into_iter().flatten();
-        Box::new(alone.chain(rows).chain(tails).chain(numbers))
+        Box::new(alone.chain(self.with_these_entries()))
     }
 
     fn end_matters(&self) -> bool {
@@ -76,6 +68,21 @@ impl Piece for Case {
             shown += &format!("lines:   second {}, program {}\n", second.len(), program.len());
         }
         shown
+    }
+}
+
+impl Case {
+    /// Smaller cases with as many entries.
+    pub fn with_these_entries(&self) -> impl Iterator<Item = Case> + '_ {
+        let rows = Table::ALL.into_iter().flat_map(|table| without_rows(self, table));
+        let tails = Table::ALL.into_iter().filter(|table| !self.tables[*table as usize].tail.is_empty()).map(|table| {
+            let mut case = self.clone();
+            case.rows(table).tail.pop();
+            case
+        });
+        let all: usize = self.tables.iter().map(|rows| rows.count()).sum();
+        let numbers = (all <= ROWS_MOST).then(|| with_smaller_numbers(self)).into_iter().flatten();
+        rows.chain(tails).chain(numbers)
     }
 }
 

@@ -3,12 +3,13 @@
 
 pub mod calls;
 pub mod case;
+pub mod counts;
 pub mod unit_file;
 
 use super::program::{self, Output};
 use std::ops::Range;
 
-/// A piece of a run: a case, a unit file, or calls of file 730.
+/// A piece of a run: a case, a case of ranges, a unit file, or calls of file 730.
 pub trait Piece: Clone {
     /// The command of the second program, and of `again`.
     const OF: &'static str;
@@ -136,7 +137,7 @@ pub fn parts(length: usize) -> impl Iterator<Item = Range<usize>> {
 mod tests {
     use super::unit_file::UnitFile;
     use super::*;
-    use crate::generate::{calls::CallCase, case::Case, LONG_CASES};
+    use crate::generate::{calls::CallCase, case::Case, counts::CountCase, LONG_CASES};
 
     /// What `again` reads is what was written.
     fn reads_what_is_joined<P: Piece>() {
@@ -148,15 +149,20 @@ mod tests {
     #[test]
     fn a_joined_input_is_read_back() {
         reads_what_is_joined::<Case>();
+        reads_what_is_joined::<CountCase>();
         reads_what_is_joined::<UnitFile>();
         reads_what_is_joined::<CallCase>();
         let case = Case::of_run(3, 20).bytes();
         assert!(Case::read(&case[..case.len() - 1]).is_none());
+        let mut case = CountCase::of_run(3, 20);
+        assert!(CountCase::read(&case.bytes()[..case.bytes().len() - 1]).is_none());
+        case.ranges[0].places = 65;
+        assert!(CountCase::read(&case.bytes()).is_none());
     }
 
     /// Fewer bytes, or as many with plainer numbers or characters: the search ends.
-    fn gets_smaller<P: Piece>(plainer: fn(&P, &P) -> bool) {
-        for number in (0..200).filter(|number| !LONG_CASES.contains(number)) {
+    fn gets_smaller<P: Piece>(pieces: u64, plainer: fn(&P, &P) -> bool) {
+        for number in (0..pieces).filter(|number| !LONG_CASES.contains(number)) {
             let piece = P::of_run(4, number);
             let bytes = |piece: &P| P::joined(std::slice::from_ref(piece)).len();
             for smaller in piece.smaller() {
@@ -168,9 +174,10 @@ mod tests {
 
     #[test]
     fn a_smaller_piece_is_smaller() {
-        gets_smaller::<Case>(|smaller, piece| case::weight(smaller) < case::weight(piece));
-        gets_smaller::<UnitFile>(|smaller, piece| unit_file::weight(&smaller.0) < unit_file::weight(&piece.0));
-        gets_smaller::<CallCase>(|smaller, piece| calls::weight(smaller) < calls::weight(piece));
+        gets_smaller::<Case>(200, |smaller, piece| case::weight(smaller) < case::weight(piece));
+        gets_smaller::<CountCase>(60, |smaller, piece| counts::weight(smaller) < counts::weight(piece));
+        gets_smaller::<UnitFile>(200, |smaller, piece| unit_file::weight(&smaller.0) < unit_file::weight(&piece.0));
+        gets_smaller::<CallCase>(200, |smaller, piece| calls::weight(smaller) < calls::weight(piece));
     }
 
     #[test]

@@ -1,7 +1,10 @@
 //! The stream of cases: six table lengths in bytes, the number of entries, the tables, the entries.
 
-use crate::check::entry::{Entry, FIELDS};
-use crate::check::{check, Lent};
+pub mod answers;
+pub mod counts;
+
+use crate::check::entry::FIELDS;
+use crate::check::Lent;
 use std::io::{self, Read, Write};
 
 pub const HEADER: usize = 28;
@@ -9,6 +12,14 @@ pub const ENTRY: usize = 4 * FIELDS;
 /// The whole case: header, tables and entries.
 pub const CASE_MOST: u64 = 4 * 1024 * 1024;
 pub const BROKEN: &[u8] = b"broken\n";
+
+/// A program over the stream.
+pub struct Program {
+    /// Bytes of an entry, and of what follows it.
+    pub entry: usize,
+    /// The lines of a case's entries; none where the case is broken.
+    pub lines: fn(&Lent, &[u8]) -> Option<Vec<u8>>,
+}
 
 /// The sizes that a header spells.
 pub struct Header {
@@ -18,19 +29,18 @@ pub struct Header {
 
 impl Header {
     pub fn new(bytes: &[u8; HEADER]) -> Header {
-        let mut numbers = bytes.chunks_exact(4).map(|c| u32::from_le_bytes([c[0], c[1], c[2], c[3]]) as u64);
-        let tables = std::array::from_fn(|_| numbers.next().unwrap_or(0));
-        Header { tables, entries: numbers.next().unwrap_or(0) }
+        let [tables @ .., entries] = numbers::<7>(bytes).map(u64::from);
+        Header { tables, entries }
     }
 
-    /// Bytes of the whole case.
-    pub fn case(&self) -> u64 {
-        HEADER as u64 + self.tables.iter().sum::<u64>() + self.entries * ENTRY as u64
+    /// Bytes of the whole case, where an entry has so many.
+    pub fn case(&self, entry: usize) -> u64 {
+        HEADER as u64 + self.tables.iter().sum::<u64>() + self.entries * entry as u64
     }
 }
 
-/// The numbers of an entry's 80 bytes.
-pub fn numbers(bytes: &[u8]) -> [u32; FIELDS] {
+/// The numbers that bytes begin with.
+pub fn numbers<const N: usize>(bytes: &[u8]) -> [u32; N] {
     std::array::from_fn(|n| u32::from_le_bytes([bytes[4 * n], bytes[4 * n + 1], bytes[4 * n + 2], bytes[4 * n + 3]]))
 }
 
@@ -45,10 +55,10 @@ pub fn parts<'b>(header: &Header, body: &'b [u8]) -> ([&'b [u8]; 6], &'b [u8]) {
     (tables, rest)
 }
 
-/// One line for each entry, or the line `broken` where the stream ends inside a case or a case is too long.
-pub fn answers(mut input: impl Read, mut output: impl Write) -> io::Result<()> {
+/// The lines of all cases, or the line `broken` where the stream ends inside a case, or a case is too long, or the
+/// program finds it broken.
+pub fn run(program: &Program, mut input: impl Read, mut output: impl Write) -> io::Result<()> {
     let mut body = Vec::new();
-    let mut lines = Vec::new();
     loop {
         let mut bytes = [0; HEADER];
         match fill(&mut input, &mut bytes)? {
@@ -57,27 +67,19 @@ pub fn answers(mut input: impl Read, mut output: impl Write) -> io::Result<()> {
             _ => break,
         }
         let header = Header::new(&bytes);
-        if header.case() > CASE_MOST {
+        if header.case(program.entry) > CASE_MOST {
             break;
         }
-        body.resize(header.case() as usize - HEADER, 0);
+        body.resize(header.case(program.entry) as usize - HEADER, 0);
         if fill(&mut input, &mut body)? < body.len() {
             break;
         }
-        lines.clear();
-        case_lines(&header, &body, &mut lines);
+        let (tables, entries) = parts(&header, &body);
+        let Some(lines) = (program.lines)(&Lent::new(tables), entries) else { break };
         output.write_all(&lines)?;
     }
     output.write_all(BROKEN)?;
     output.flush()
-}
-
-fn case_lines(header: &Header, body: &[u8], lines: &mut Vec<u8>) {
-    let (tables, entries) = parts(header, body);
-    let lent = Lent::new(tables);
-    for entry in entries.chunks_exact(ENTRY) {
-        check(&lent, &Entry::new(numbers(entry))).line(lines);
-    }
 }
 
 /// Reads until the room is full or the input ends; the number of bytes read.

@@ -1,0 +1,124 @@
+//! What demand 3 is tried on: cases with their blanks filled, and with their rows in another order.
+
+use super::smallest::Piece;
+use crate::generate;
+use crate::generate::case::{Case, Numbers};
+use crate::generate::counts::{CountCase, Range};
+use crate::random::Random;
+use second::check::entry::*;
+
+/// The data an entry may leave blank, each with its question.
+pub const DATA: [(usize, u32); 6] = [(AGE, 101), (SEX, 102), (HPK, 103), (PRK, 104), (WEIGHT, 105), (SURFACE, 106)];
+
+/// A line that answers the entry of another with one datum filled: the place of the other, and the datum.
+#[derive(Clone, Copy)]
+pub struct Filled {
+    pub of: usize,
+    pub datum: usize,
+}
+
+/// A case with its entries, each followed by itself with each blank filled, and how they hang together.
+pub struct Filling<P> {
+    pub number: u64,
+    /// What the program is sent: the case, then the case with its rows in another order.
+    pub sent: [P; 2],
+    /// The tables, and the entry that each line answers.
+    pub case: Case,
+    pub filled: Vec<Option<Filled>>,
+}
+
+/// A piece whose lines are judged by demand 3.
+pub trait Fillable: Piece {
+    fn of_filled(number: u64, seed: u64, cases: [Case; 2], filled: Vec<Option<Filled>>) -> Filling<Self>;
+}
+
+impl Fillable for Case {
+    /// A line for each entry.
+    fn of_filled(number: u64, _: u64, sent: [Case; 2], filled: Vec<Option<Filled>>) -> Filling<Case> {
+        Filling { number, case: sent[0].clone(), sent, filled }
+    }
+}
+
+impl Fillable for CountCase {
+    /// A line for each count of each entry; an entry and what is made of it have the same range.
+    fn of_filled(number: u64, seed: u64, cases: [Case; 2], filled: Vec<Option<Filled>>) -> Filling<CountCase> {
+        let r = &mut Random::of_case(!seed ^ 0x7261_6e67, number);
+        let (mut ranges, mut starts): (Vec<Range>, Vec<usize>) = (vec![], vec![]);
+        let mut asked = Case { tables: cases[0].tables.clone(), entries: vec![] };
+        let mut filled_lines = vec![];
+        for (entry, filled) in cases[0].entries.iter().zip(filled) {
+            let range = filled.map_or_else(|| answered(r, entry[COUNT]), |filled| ranges[filled.of]);
+            starts.push(asked.entries.len());
+            ranges.push(range);
+            for (place, count) in (range.first..=range.last).enumerate() {
+                let mut line = *entry;
+                line[COUNT] = count;
+                asked.entries.push(line);
+                filled_lines.push(filled.map(|Filled { of, datum }| Filled { of: starts[of] + place, datum }));
+            }
+        }
+        let sent = cases.map(|case| CountCase { case, ranges: ranges.clone() });
+        Filling { number, sent, case: asked, filled: filled_lines }
+    }
+}
+
+/// A few counts about the own one, and room for them.
+fn answered(r: &mut Random, own: u32) -> Range {
+    let first = own.saturating_sub(r.below(2) as u32);
+    let last = first.saturating_add(r.below(4) as u32);
+    Range { first, last, places: last - first + 1 }
+}
+
+/// Several permitted values of a datum.
+fn values(datum: usize, r: &mut Random, case: &Case) -> Vec<u32> {
+    let column = |table: usize, place: usize, over: u64| {
+        let rows = &case.tables[table];
+        rows.cells.chunks_exact(rows.width()).map(|row| (row[place] / over) as u32).take(4).collect::<Vec<u32>>()
+    };
+    let (_, low, high) = RANGES[datum];
+    let mut values = match datum {
+        SEX => vec![],
+        PRK | HPK => column(1, datum, 1),
+        AGE => [column(3, 1, 1_000), column(3, 2, 1_000)].concat(),
+        WEIGHT => [column(3, 5, 1), column(3, 6, 1)].concat(),
+        _ => [column(3, 7, 1), column(3, 8, 1)].concat(),
+    };
+    values.extend([low, high, r.between(low as u64, high as u64) as u32]);
+    values.retain(|value| (low..=high).contains(value));
+    values.sort();
+    values.dedup();
+    values
+}
+
+pub fn filling<P: Fillable>(seed: u64, number: u64) -> Filling<P> {
+    let r = &mut Random::of_case(!seed, number);
+    let mut case = generate::light_case(seed, number);
+    let entries: Vec<Numbers> = std::mem::take(&mut case.entries);
+    let mut filled = vec![];
+    for mut entry in entries {
+        // More blanks than the generator gives, so that each question is met.
+        if r.percent(50) {
+            entry[r.pick(&DATA).0] = BLANK;
+        }
+        let of = case.entries.len();
+        case.entries.push(entry);
+        filled.push(None);
+        for (datum, _) in DATA.into_iter().filter(|(datum, _)| entry[*datum] == BLANK) {
+            for value in values(datum, r, &case) {
+                let mut given = entry;
+                given[datum] = value;
+                case.entries.push(given);
+                filled.push(Some(Filled { of, datum }));
+            }
+        }
+        if entry[MONTHS] == BLANK {
+            let mut given = entry;
+            given[MONTHS] = MONTHS_ON;
+            case.entries.push(given);
+            filled.push(Some(Filled { of, datum: MONTHS }));
+        }
+    }
+    let mut shuffled = case.clone();
+    shuffled.shuffle(r);
+    P::of_filled(number, seed, [case, shuffled], filled)
+}

@@ -1,0 +1,57 @@
+//! Stored cases of ranges, and the output this program gives.
+
+use super::smallest::Piece;
+use super::store::{numbers, write, SEED};
+use crate::generate::counts::{made_count_case, CountCase, Range};
+use crate::generate::{full, proof_ranges};
+use crate::random::Random;
+use second::stream::counts::PLACES_MOST;
+use second::stream::BROKEN;
+use std::{io, path::Path};
+
+/// Numbers of cases that showed something new of SEED's first 12,000 in the coverage, the short ones first.
+const CHOSEN: &str = include_str!("../../stored/counts");
+/// So many cases of ranges are stored, and a broken one.
+pub const CASES: usize = 230;
+/// The rest is filled up with cases of so many ranges or more, no longer than this.
+const FILLING_RANGES: usize = 5;
+const FILLING_BYTES: usize = 2_000;
+
+/// The proof table's ranges first; then tables that are refused and full categories; the chosen cases; others.
+pub fn cases() -> Vec<CountCase> {
+    let mut cases = vec![proof_ranges::k_1_to_3(), proof_ranges::ranges()];
+    cases.extend([121, 122].map(proof_ranges::over_bad_tables));
+    cases.extend((0..3).map(full_category));
+    let chosen = numbers(CHOSEN);
+    let made = |number: &u64| made_count_case(SEED, *number);
+    cases.extend(chosen.iter().map(made));
+    let others = (0..).filter(|number| !chosen.contains(number)).map(|number| made(&number));
+    let room = CASES - cases.len();
+    let filling = |case: &CountCase| case.ranges.len() >= FILLING_RANGES && case.bytes().len() <= FILLING_BYTES;
+    cases.extend(others.filter(filling).take(room));
+    cases
+}
+
+/// Its one entry for two counts, of which the first has the row or rows.
+fn full_category(variant: usize) -> CountCase {
+    let case = full::full(variant, &mut Random::of_case(SEED, variant as u64));
+    CountCase { case, ranges: vec![Range { first: 1, last: 2, places: 2 }] }
+}
+
+/// The cases as a stream; then one whose second list has a place too many, and one more behind it.
+pub fn stream(cases: &[CountCase]) -> (Vec<u8>, Vec<u8>) {
+    let (mut stdin, mut stdout) = (CountCase::joined(cases), CountCase::lines(cases).concat());
+    let mut broken = proof_ranges::k_1_to_3();
+    broken.ranges[1].places = PLACES_MOST + 1;
+    stdin.extend(CountCase::joined(&[broken, proof_ranges::k_1_to_3()]));
+    stdout.extend(BROKEN);
+    (stdin, stdout)
+}
+
+pub fn counts(dir: &Path) -> io::Result<String> {
+    let cases = cases();
+    let ranges: usize = cases.iter().map(|case| case.ranges.len()).sum();
+    let (stdin, stdout) = stream(&cases);
+    write(dir, &stdin, &stdout)?;
+    Ok(format!("{} cases, {ranges} ranges, {} bytes", cases.len(), stdin.len()))
+}
