@@ -1,5 +1,6 @@
-//! A line of the proved program: the eight numbers of an answer, held to what document 01 lets them be.
+//! A line of a proved program: the eight numbers of an answer, held to what document 01 lets them be, or 131.
 
+use crate::range::Range;
 use crate::words;
 
 /// Document 01's names of the eight numbers.
@@ -8,6 +9,7 @@ pub const NAMES: [&str; 8] = ["answer", "text", "table", "basis", "category", "r
 const HIGHEST_HIGH: u32 = 2;
 const HIGHEST_LOW: u32 = 1;
 
+#[derive(Default)]
 pub struct Answer {
     pub answer: u32,
     pub text: u32,
@@ -22,9 +24,6 @@ pub struct Answer {
 impl Answer {
     /// Reads a line, or says why it is none of an answer.
     pub fn read(line: &str) -> Result<Answer, String> {
-        if line == "broken" {
-            return Err("it says `broken`: it did not take the tables and entries it was sent".to_string());
-        }
         let numbers: Option<Vec<u32>> = line.split(' ').map(number).collect();
         let numbers = numbers.and_then(|numbers| <[u32; NAMES.len()]>::try_from(numbers).ok());
         let Some([answer, text, table, basis, category, rule, high, low]) = numbers else {
@@ -37,6 +36,15 @@ impl Answer {
             return Err(format!("`{line}`: high is at most {HIGHEST_HIGH} and low at most {HIGHEST_LOW}"));
         }
         Ok(Answer { answer, text, table, basis, category, rule, high, low })
+    }
+
+    /// Reads the line of a range that must be refused. 131 comes alone: the other numbers are not reached, so 0.
+    pub fn read_refusal(line: &str, range: Range) -> Result<Answer, String> {
+        let answer = words::RANGE_REFUSED;
+        if line != answer.to_string() {
+            return Err(format!("`{line}` is not {answer}, which the range {range} must get"));
+        }
+        Ok(Answer { answer, ..Answer::default() })
     }
 
     pub fn numbers(&self) -> [u32; NAMES.len()] {

@@ -19,9 +19,11 @@ pub fn read(words: impl Iterator<Item = OsString>) -> Result<Command, String> {
         Some("help" | "--help" | "-h") => Ok(Command::Help),
         Some("check") => {
             let [tables, entries] = options.files("check TABLES ENTRIES")?;
-            Ok(Command::Check(Check { tables, entries, is_csv: options.is_csv, program: options.program }))
+            let Options { is_csv, program, counts_program, .. } = options;
+            Ok(Command::Check(Check { tables, entries, is_csv, program, counts_program }))
         }
         Some("units") if options.is_csv => Err("units has no --csv".to_string()),
+        Some("units") if options.counts_program.is_some() => Err("units has no --counts-program".to_string()),
         Some("units") => {
             let [file] = options.files("units FILE")?;
             Ok(Command::Units(Units { file, program: options.program }))
@@ -35,6 +37,7 @@ struct Options {
     files: Vec<PathBuf>,
     is_csv: bool,
     program: Option<PathBuf>,
+    counts_program: Option<PathBuf>,
 }
 
 impl Options {
@@ -45,6 +48,10 @@ impl Options {
                 Some("--csv") => options.is_csv = true,
                 Some("--program") => {
                     options.program = Some(words.next().ok_or("--program needs a PATH")?.into());
+                }
+                Some("--counts-program") => {
+                    let path = words.next().ok_or("--counts-program needs a PATH")?;
+                    options.counts_program = Some(path.into());
                 }
                 Some(other) if other.starts_with("--") => return Err(format!("`{other}` is not an option")),
                 _ => options.files.push(word.into()),

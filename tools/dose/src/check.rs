@@ -1,35 +1,35 @@
 //! `dose check`: nothing is sent unless all files are sound, and nothing is printed unless all lines are.
 
-use crate::answer::Answer;
+use crate::ask::{self, Line, Part};
 use crate::columns::{ENTRY, LIMITS, TABLES};
+use crate::due::{self, Due};
 use crate::failure::{Failure, Fault};
 use crate::limits::Limits;
-use crate::progress::Progress;
+use crate::program::{ANSWERS, COUNTS};
+use crate::report;
 use crate::sheet::{self, Names, Sheet};
-use crate::stream::Stream;
-use crate::{program, report, talk};
+use crate::stream::{Stream, Tables};
 use std::io::{self, BufWriter};
-use std::path::{Path, PathBuf};
+use std::path::PathBuf;
 
 pub struct Check {
     pub tables: PathBuf,
     pub entries: PathBuf,
     pub is_csv: bool,
+    /// Where the programs `answers` and `counts` are, if that was said.
     pub program: Option<PathBuf>,
+    pub counts_program: Option<PathBuf>,
 }
 
 pub fn run(check: &Check) -> Result<(), Failure> {
     let (tables, entries) = read(check).map_err(Failure::Refused)?;
-    let folder = check.tables.display().to_string();
-    let stream = Stream::new(&folder, &tables, &entries).map_err(|fault| Failure::Refused(vec![fault]))?;
-    let answers = if entries.len() == 0 {
+    let bytes = Tables::new(check.tables.display().to_string(), &tables);
+    let parts = parts(check, &bytes, &entries).map_err(|fault| Failure::Refused(vec![fault]))?;
+    if entries.len() == 0 {
         eprintln!("dose: {} has no entries", check.entries.display());
-        Vec::new()
-    } else {
-        let program = program::find("answers", check.program.as_deref()).map_err(Failure::Program)?;
-        ask(&program, &stream, &entries).map_err(Failure::Program)?
-    };
-    print(check, &tables, &entries, &answers)
+    }
+    let lines = ask::all(&parts).map_err(Failure::Program)?;
+    print(check, &tables, &entries, &lines)
         .map_err(|e| Failure::Program(format!("the answers cannot be written: {e}")))
 }
 
@@ -51,33 +51,24 @@ fn read(check: &Check) -> Result<(Vec<Sheet>, Sheet), Vec<Fault>> {
     Err(faults)
 }
 
-/// One answer for each entry, in their order.
-fn ask(program: &Path, stream: &Stream, entries: &Sheet) -> Result<Vec<Answer>, String> {
-    let total = entries.len();
-    let mut progress = Progress::new(total);
-    let mut answers = Vec::with_capacity(total);
-    let hear = |line: &str| {
-        let place = format!("line {} of the program {}", answers.len() + 1, program.display());
-        if answers.len() == total {
-            return Err(format!("{place}: `{line}` is one line too many: {total} entries were sent"));
-        }
-        answers.push(Answer::read(line).map_err(|what| format!("{place}: {what}"))?);
-        progress.reached(answers.len());
-        Ok(())
-    };
-    talk::run(program, |out| stream.write(out), hear)?;
-    if answers.len() < total {
-        let heard = answers.len();
-        return Err(format!("the program {} wrote {heard} lines for {total} entries", program.display()));
+/// An entry with one count goes to `answers`. One with a range goes to `counts`, even a range of one count: P3 gives
+/// ranges a default for months of their own.
+fn parts<'a>(check: &'a Check, tables: &'a Tables, entries: &Sheet) -> Result<Vec<Part<'a>>, Fault> {
+    let (ranged, plain): (Vec<Due>, Vec<Due>) = due::of(entries).into_iter().partition(Due::is_of_range);
+    let stream = Stream::of_answers(tables, entries)?;
+    let mut parts = vec![Part { proved: &ANSWERS, given: check.program.as_deref(), stream, due: plain }];
+    if !ranged.is_empty() {
+        let stream = Stream::of_counts(tables, entries)?;
+        parts.push(Part { proved: &COUNTS, given: check.counts_program.as_deref(), stream, due: ranged });
     }
-    Ok(answers)
+    Ok(parts)
 }
 
-fn print(check: &Check, tables: &[Sheet], entries: &Sheet, answers: &[Answer]) -> io::Result<()> {
+fn print(check: &Check, tables: &[Sheet], entries: &Sheet, lines: &[Line]) -> io::Result<()> {
     let mut out = BufWriter::new(io::stdout().lock());
     if check.is_csv {
-        return report::csv(&mut out, entries, answers);
+        return report::csv(&mut out, entries, lines);
     }
     let place = TABLES.iter().position(|table| table.file == LIMITS).expect("649 is one of the tables");
-    report::readable(&mut out, entries, answers, &Limits::new(&tables[place]))
+    report::readable(&mut out, entries, lines, &Limits::new(&tables[place]))
 }

@@ -9,6 +9,8 @@ pub enum Content {
     Wide,
     /// A whole number of 32 bits, or blank.
     NumberOrBlank,
+    /// A whole number of 32 bits, or a range of two: count.
+    NumberOrRange,
     /// `on`, `off` or blank: months.
     OnOffOrBlank,
 }
@@ -36,6 +38,10 @@ const fn wide(name: &'static str) -> Column {
 
 const fn or_blank(name: &'static str) -> Column {
     Column { name, content: Content::NumberOrBlank }
+}
+
+const fn or_range(name: &'static str) -> Column {
+    Column { name, content: Content::NumberOrRange }
 }
 
 const fn on_off(name: &'static str) -> Column {
@@ -94,7 +100,7 @@ pub const ENTRY: &[Column] = &[
     number("reason"),
     number("ICPCTO"),
     number("route"),
-    number("count"),
+    or_range(COUNT),
     number("time unit"),
     number("lowest"),
     number("highest"),
@@ -105,10 +111,11 @@ pub const ENTRY: &[Column] = &[
     on_off("months"),
 ];
 
-// The fields that the front itself reads, to show the limits.
+// The fields that the front itself reads, to show the limits and the counts.
 pub const LIMITS: &str = "649.csv";
 pub const RULE: &str = "GPDDNR";
 pub const NORM_MINIMUM: &str = "norm minimum";
 pub const NORM_MAXIMUM: &str = "norm maximum";
 pub const ABSOLUTE_MAXIMUM: &str = "absolute maximum";
 pub const BASE_UNIT: &str = "base unit";
+pub const COUNT: &str = "count";

@@ -2,9 +2,11 @@
 
 mod answer;
 mod args;
+mod ask;
 mod check;
 mod columns;
 mod csv;
+mod due;
 mod failure;
 mod header;
 mod kit;
@@ -12,6 +14,7 @@ mod limits;
 mod number;
 mod program;
 mod progress;
+mod range;
 mod report;
 mod sheet;
 mod stream;

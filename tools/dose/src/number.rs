@@ -1,16 +1,23 @@
-//! A cell as the number that the stream has for it.
+//! A cell as the number that the stream has for it, or as a range of counts.
 
 use crate::columns::Content;
+use crate::range::Range;
 
 /// The number that stands for blank, or for a setting not given.
 pub const BLANK: u64 = u32::MAX as u64;
 const OFF: u64 = 0;
 const ON: u64 = 1;
 
-/// The number, or why the cell is refused. What document 01 does not permit is not refused here:
-/// the proved program answers it with 125 or 122.
-pub fn read(cell: &str, content: Content) -> Result<u64, String> {
-    match content {
+pub enum Value {
+    Number(u64),
+    Range(Range),
+}
+
+/// The value, or why the cell is refused. What document 01 or 02 does not permit is not refused here:
+/// the proved program answers it with 125, 122 or 131.
+pub fn read(cell: &str, content: Content) -> Result<Value, String> {
+    let number = match content {
+        Content::NumberOrRange => return filled(cell).and_then(count),
         Content::Number => filled(cell).and_then(narrow),
         Content::Wide => filled(cell).and_then(wide),
         Content::NumberOrBlank if cell.is_empty() => Ok(BLANK),
@@ -21,7 +28,8 @@ pub fn read(cell: &str, content: Content) -> Result<u64, String> {
             "off" => Ok(OFF),
             _ => Err(format!("`{cell}` is neither on, off nor blank")),
         },
-    }
+    };
+    number.map(Value::Number)
 }
 
 fn filled(cell: &str) -> Result<&str, String> {
@@ -31,8 +39,12 @@ fn filled(cell: &str) -> Result<&str, String> {
     Ok(cell)
 }
 
+fn is_digits(text: &str) -> bool {
+    !text.is_empty() && text.bytes().all(|b| b.is_ascii_digit())
+}
+
 fn digits(cell: &str) -> Result<&str, String> {
-    if cell.is_empty() || !cell.bytes().all(|b| b.is_ascii_digit()) {
+    if !is_digits(cell) {
         return Err(format!("`{cell}` is damaged: a whole number, in digits alone, must stand here"));
     }
     Ok(cell)
@@ -50,4 +62,19 @@ fn narrow(cell: &str) -> Result<u64, String> {
         return Err(format!("{cell} cannot be given: this number stands for a blank"));
     }
     Ok(number.into())
+}
+
+/// A whole number, or FIRST-LAST.
+fn count(cell: &str) -> Result<Value, String> {
+    if is_digits(cell) {
+        return narrow(cell).map(Value::Number);
+    }
+    match cell.split_once('-') {
+        Some((first, last)) if is_digits(first) && is_digits(last) => {
+            Ok(Value::Range(Range { first: narrow(first)?, last: narrow(last)? }))
+        }
+        _ => Err(format!(
+            "`{cell}` is damaged: a whole number, in digits alone, or a range of two, as 1-3, must stand here"
+        )),
+    }
 }

@@ -8,14 +8,24 @@ use std::process::{Child, Command, Stdio};
 /// The file at the root of the repository, by which the root is known.
 const ROOT_MARK: &str = "crates.txt";
 
+/// A proved program, and the option that names it.
+pub struct Proved {
+    name: &'static str,
+    option: &'static str,
+}
+
+pub const ANSWERS: Proved = Proved { name: "answers", option: "--program" };
+pub const COUNTS: Proved = Proved { name: "counts", option: "--counts-program" };
+pub const UNIT_LIST: Proved = Proved { name: "unit_list", option: "--program" };
+
 /// The program that was given, or the one that `rt check` puts into the repository around this front.
-pub fn find(name: &str, given: Option<&Path>) -> Result<PathBuf, String> {
+pub fn find(proved: &Proved, given: Option<&Path>) -> Result<PathBuf, String> {
     if let Some(path) = given {
         return path
             .canonicalize()
             .map_err(|e| format!("the program {} cannot be found: {e}", path.display()));
     }
-    let below_root = Path::new("target").join("bin").join(name);
+    let below_root = Path::new("target").join("bin").join(proved.name);
     let front = std::env::current_exe().ok();
     let here = std::env::current_dir().ok();
     for start in [front, here].into_iter().flatten() {
@@ -25,8 +35,9 @@ pub fn find(name: &str, given: Option<&Path>) -> Result<PathBuf, String> {
         }
     }
     Err(format!(
-        "the proved program {} is not there: run `rt check` in the repository, or name it with --program PATH",
-        below_root.display()
+        "the proved program {} is not there: run `rt check` in the repository, or name it with {} PATH",
+        below_root.display(),
+        proved.option
     ))
 }
 

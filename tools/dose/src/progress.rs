@@ -12,6 +12,7 @@ const MANY: usize = 10_000;
 pub struct Progress {
     start: Instant,
     next: Duration,
+    done: usize,
     total: usize,
     is_terminal: bool,
     is_shown: bool,
@@ -20,17 +21,18 @@ pub struct Progress {
 impl Progress {
     pub fn new(total: usize) -> Progress {
         let is_terminal = io::stderr().is_terminal();
-        Progress { start: Instant::now(), next: QUIET, total, is_terminal, is_shown: false }
+        Progress { start: Instant::now(), next: QUIET, done: 0, total, is_terminal, is_shown: false }
     }
 
-    pub fn reached(&mut self, done: usize) {
+    pub fn one_more(&mut self) {
+        self.done += 1;
         if !self.is_terminal && self.total < MANY || self.start.elapsed() < self.next {
             return;
         }
         let (before, after, pause) =
             if self.is_terminal { ("\r", "", ON_TERMINAL) } else { ("", "\n", IN_FILE) };
         // a run does not fail because its progress cannot be shown
-        let _ = write!(io::stderr(), "{before}dose: {done} of {} entries checked{after}", self.total);
+        let _ = write!(io::stderr(), "{before}dose: {} of {} answers given{after}", self.done, self.total);
         self.is_shown = true;
         self.next = self.start.elapsed() + pause;
     }

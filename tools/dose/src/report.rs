@@ -1,44 +1,72 @@
 //! The answers as a person reads them, and as CSV.
 
 use crate::answer::{Answer, NAMES};
-use crate::columns::{BASE_UNIT, NAME};
+use crate::ask::Line;
+use crate::columns::{BASE_UNIT, COUNT, NAME};
+use crate::due::{Due, What};
 use crate::limits::Limits;
 use crate::sheet::Sheet;
 use crate::words;
 use std::io::{self, Write};
 
-/// One line for each entry: answer in words, text, limits, basis, category, rule, high, low.
-pub fn readable(out: &mut dyn Write, entries: &Sheet, answers: &[Answer], limits: &Limits) -> io::Result<()> {
+/// One line for each entry, or for each count of its range: answer in words, text, limits, basis, category, rule,
+/// high, low. A refused range has one line, and 131 has no other numbers.
+pub fn readable(out: &mut dyn Write, entries: &Sheet, lines: &[Line], limits: &Limits) -> io::Result<()> {
     let base_unit = entries.place(BASE_UNIT);
-    for (i, (entry, answer)) in entries.rows().zip(answers).enumerate() {
+    for Line { due, answer } in lines {
         let line = if entries.is_named { "" } else { "line " };
-        writeln!(
-            out,
-            "{line}{}: {} {}; text {}; {}; basis {}; category {}; rule {}; high {}; low {}",
-            entries.label(i),
-            answer.answer,
-            words::sentence(answer),
-            answer.text,
-            limits.sentence(answer.rule, entry[base_unit]),
-            answer.basis,
-            answer.category,
-            answer.rule,
-            answer.high,
-            answer.low
-        )?;
+        let label = entries.label(due.row);
+        let said = match due.what {
+            What::Refusal(_) => format!("{} {}", answer.answer, words::RANGE_REFUSED_MEANS),
+            _ => sentence(answer, &limits.sentence(answer.rule, entries.row(due.row)[base_unit])),
+        };
+        match due.what {
+            What::Answer => writeln!(out, "{line}{label}: {said}"),
+            What::AnswerOf(count) => writeln!(out, "{line}{label}, count {count}: {said}"),
+            What::Refusal(range) => writeln!(out, "{line}{label}, counts {range}: {said}"),
+        }?;
     }
     out.flush()
 }
 
-/// A header, then for each entry its name or line and the eight numbers.
-pub fn csv(out: &mut dyn Write, entries: &Sheet, answers: &[Answer]) -> io::Result<()> {
-    let first = if entries.is_named { NAME } else { "line" };
-    writeln!(out, "{first},{}", NAMES.join(","))?;
-    for (i, answer) in answers.iter().enumerate() {
-        let numbers = answer.numbers().map(|number| number.to_string());
-        writeln!(out, "{},{}", cell(entries.label(i)), numbers.join(","))?;
+fn sentence(answer: &Answer, limits: &str) -> String {
+    format!(
+        "{} {}; text {}; {limits}; basis {}; category {}; rule {}; high {}; low {}",
+        answer.answer,
+        words::sentence(answer),
+        answer.text,
+        answer.basis,
+        answer.category,
+        answer.rule,
+        answer.high,
+        answer.low
+    )
+}
+
+/// A header, then for each line the name or line of its entry and the eight numbers. If some entry has a range,
+/// all lines have their count between the two.
+pub fn csv(out: &mut dyn Write, entries: &Sheet, lines: &[Line]) -> io::Result<()> {
+    let has_count = entries.has_ranges();
+    let mut header = vec![if entries.is_named { NAME } else { "line" }];
+    header.extend(has_count.then_some(COUNT));
+    header.extend(NAMES);
+    writeln!(out, "{}", header.join(","))?;
+    for Line { due, answer } in lines {
+        let mut cells = vec![cell(entries.label(due.row))];
+        cells.extend(has_count.then(|| count(entries, due)));
+        cells.extend(answer.numbers().map(|number| number.to_string()));
+        writeln!(out, "{}", cells.join(","))?;
     }
     out.flush()
+}
+
+/// The count that was checked. Of a refused range none was: a blank, and not 0, which a range can have.
+fn count(entries: &Sheet, due: &Due) -> String {
+    match due.what {
+        What::Answer => entries.row(due.row)[entries.place(COUNT)].to_string(),
+        What::AnswerOf(count) => count.to_string(),
+        What::Refusal(_) => String::new(),
+    }
 }
 
 /// A name, in quotes where a comma, a quote or a space at an end would be lost.

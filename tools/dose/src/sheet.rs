@@ -2,6 +2,8 @@
 
 use crate::columns::{Column, NAME};
 use crate::failure::Fault;
+use crate::number::Value;
+use crate::range::Range;
 use crate::{csv, header, number};
 use std::borrow::Cow;
 use std::path::Path;
@@ -12,6 +14,8 @@ pub struct Sheet {
     numbers: Vec<u64>,
     /// For each row its name, or its line where the file has no names.
     labels: Vec<String>,
+    /// For each row its range of counts, if it has one.
+    ranges: Vec<Option<Range>>,
     pub is_named: bool,
 }
 
@@ -24,12 +28,24 @@ impl Sheet {
         self.numbers.chunks_exact(self.columns.len())
     }
 
+    pub fn row(&self, row: usize) -> &[u64] {
+        &self.numbers[row * self.columns.len()..][..self.columns.len()]
+    }
+
     pub fn columns(&self) -> &'static [Column] {
         self.columns
     }
 
     pub fn label(&self, row: usize) -> &str {
         &self.labels[row]
+    }
+
+    pub fn ranges(&self) -> &[Option<Range>] {
+        &self.ranges
+    }
+
+    pub fn has_ranges(&self) -> bool {
+        self.ranges.iter().any(Option::is_some)
     }
 
     /// The place of a field in a row.
@@ -52,7 +68,8 @@ pub fn read(path: &Path, columns: &'static [Column], names: Names) -> Result<She
     let lines = csv::lines(&bytes).map_err(|line| {
         vec![Fault::of_line(&file, line, "is not UTF-8 text: save the file as CSV UTF-8".to_string())]
     })?;
-    let sheet = Sheet { columns, numbers: Vec::new(), labels: Vec::new(), is_named: false };
+    let sheet =
+        Sheet { columns, numbers: Vec::new(), labels: Vec::new(), ranges: Vec::new(), is_named: false };
     let mut reader = Reader { file: &file, sheet, faults: Vec::new() };
     reader.header(lines.first().unwrap_or(&""), names);
     if reader.faults.is_empty() {
@@ -107,15 +124,22 @@ impl Reader<'_> {
         if let Some(what) = self.wrong_count(&cells) {
             return self.faults.push(Fault::of_line(self.file, line, what));
         }
+        let mut row_range = None;
         for (place, cell) in cells.iter().enumerate().skip(self.before()) {
             match number::read(cell, self.sheet.columns[place - self.before()].content) {
-                Ok(number) => self.sheet.numbers.push(number),
+                Ok(Value::Number(number)) => self.sheet.numbers.push(number),
+                // the program `counts` does not look at the entry's own count: the first stands in its place
+                Ok(Value::Range(range)) => {
+                    self.sheet.numbers.push(range.first);
+                    row_range = Some(range);
+                }
                 Err(what) => self.faults.push(Fault::of_field(self.file, line, &self.field(place), what)),
             }
         }
         if self.sheet.is_named && cells[0].is_empty() {
             self.faults.push(Fault::of_field(self.file, line, NAME, "the cell is blank".to_string()));
         }
+        self.sheet.ranges.push(row_range);
         self.sheet.labels.push(if self.sheet.is_named { cells[0].to_string() } else { line.to_string() });
     }
 

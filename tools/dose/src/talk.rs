@@ -16,7 +16,7 @@ pub fn run(
     let output = child.stdout.take().expect("the output is in our hands");
     let (heard, sent) = std::thread::scope(|scope| {
         let sender = scope.spawn(|| send(&mut BufWriter::new(input)));
-        let heard = hear_all(BufReader::new(output), &mut hear);
+        let heard = hear_all(path, BufReader::new(output), &mut hear);
         if heard.is_err() {
             let _ = child.kill(); // it may have ended by itself
         }
@@ -24,7 +24,7 @@ pub fn run(
     });
     let status = child.wait();
     heard?;
-    let status = status.map_err(|e| format!("the program did not end: {e}"))?;
+    let status = status.map_err(|e| format!("the program {} did not end: {e}", path.display()))?;
     if !status.success() {
         return Err(format!("the program {} failed ({status})", path.display()));
     }
@@ -32,19 +32,23 @@ pub fn run(
 }
 
 fn hear_all(
+    path: &Path,
     mut output: impl BufRead,
     hear: &mut impl FnMut(&str) -> Result<(), String>,
 ) -> Result<(), String> {
+    let program = path.display();
     let mut line = Vec::new();
     loop {
         line.clear();
-        let length =
-            output.read_until(b'\n', &mut line).map_err(|e| format!("the program cannot be heard: {e}"))?;
+        let length = output
+            .read_until(b'\n', &mut line)
+            .map_err(|e| format!("the program {program} cannot be heard: {e}"))?;
         if length == 0 {
             return Ok(());
         }
         let Some(text) = line.strip_suffix(b"\n") else {
-            return Err(format!("the program ended inside a line: `{}`", String::from_utf8_lossy(&line)));
+            let text = String::from_utf8_lossy(&line);
+            return Err(format!("the program {program} ended inside a line: `{text}`"));
         };
         hear(&String::from_utf8_lossy(text))?;
     }

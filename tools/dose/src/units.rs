@@ -19,7 +19,7 @@ pub fn run(units: &Units) -> Result<(), Failure> {
         Failure::Refused(vec![fault])
     };
     let bytes = std::fs::read(&units.file).map_err(refused)?;
-    let program = program::find("unit_list", units.program.as_deref()).map_err(Failure::Program)?;
+    let program = program::find(&program::UNIT_LIST, units.program.as_deref()).map_err(Failure::Program)?;
     let list = list(&program, &bytes).map_err(Failure::Program)?;
     let written = io::stdout().lock().write_all(list.as_bytes());
     written.map_err(|e| Failure::Program(format!("the list cannot be written: {e}")))

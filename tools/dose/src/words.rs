@@ -1,8 +1,12 @@
-//! Document 01's table of answers, in words.
+//! Document 01's table of answers, in words, and document 02's refusal of a range.
 
 use crate::answer::Answer;
 
 const COMPARED: u32 = 100;
+
+/// The refusal of a whole range of counts (P2). It is no answer of a check.
+pub const RANGE_REFUSED: u32 = 131;
+pub const RANGE_REFUSED_MEANS: &str = "first count above the last, or over 16 counts";
 
 /// The meaning of an answer, if document 01 has it.
 pub fn of(answer: u32) -> Option<&'static str> {

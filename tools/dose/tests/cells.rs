@@ -4,6 +4,9 @@ mod common;
 use common::{sample, Room, ENTRIES, TABLES};
 
 const BLANK: [u8; 4] = [255; 4];
+/// Places in a line of the entries.
+const COUNT: usize = 12;
+const MONTHS: usize = 20;
 /// A whole row of 730, which is empty in the sample.
 const UNIT_ROW: &str = "SRTCDE,CODE,CDHOEV,CDEENH\n1,216267,20000,303\n";
 
@@ -67,6 +70,21 @@ fn all_kinds_of_damage() {
     }
     cell_refused(&room, "640.csv", 0, "1\r", "`1\\r` is damaged");
     cell_refused(&room, ENTRIES, 20, "1", "`1` is neither on, off nor blank");
+}
+
+#[test]
+fn a_range_stands_in_count_alone() {
+    let room = Room::new("a_range_stands_in_count_alone");
+    for file in TABLES.into_iter().chain([ENTRIES]) {
+        for place in usize::from(file == ENTRIES)..width(file) {
+            let why = match (file, place) {
+                (ENTRIES, COUNT) => continue,
+                (ENTRIES, MONTHS) => "`1-3` is neither on, off nor blank",
+                _ => "`1-3` is damaged: a whole number, in digits alone, must stand here",
+            };
+            cell_refused(&room, file, place, "1-3", why);
+        }
+    }
 }
 
 #[test]

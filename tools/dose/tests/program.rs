@@ -70,7 +70,7 @@ fn a_program_that_is_not_there_or_none() {
 #[test]
 fn wrong_words_on_the_command_line() {
     let room = Room::new("wrong_words");
-    let lines: [&[&str]; 8] = [
+    let lines: [&[&str]; 10] = [
         &[],
         &["chek"],
         &["check"],
@@ -78,7 +78,9 @@ fn wrong_words_on_the_command_line() {
         &["check", "a", "b", "c"],
         &["check", "a", "b", "--program"],
         &["check", "a", "b", "--cvs"],
+        &["check", "a", "b", "--counts-program"],
         &["units", "a", "--csv"],
+        &["units", "a", "--counts-program", "b"],
     ];
     for words in lines {
         let ran = ran(room.dose().args(words));

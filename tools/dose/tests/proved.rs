@@ -1,31 +1,49 @@
-//! The samples through the proved programs, against the papers. DOSE_ANSWERS and DOSE_UNIT_LIST name the programs:
-//! `DOSE_ANSWERS=... DOSE_UNIT_LIST=... cargo test -- --include-ignored`.
+//! The samples through the proved programs, against the papers. DOSE_ANSWERS, DOSE_COUNTS and DOSE_UNIT_LIST name the
+//! programs: `DOSE_ANSWERS=... DOSE_COUNTS=... DOSE_UNIT_LIST=... cargo test -- --include-ignored`.
 
 mod common;
-use common::{ran, sample, SAMPLE};
+use common::{ran, ranges, sample, SAMPLE};
 use std::process::Command;
 
-/// The front with these words and the program that the variable names.
-fn said(words: &[&str], variable: &str) -> String {
-    let program =
-        std::env::var_os(variable).unwrap_or_else(|| panic!("{variable} must name the proved program"));
-    let ran = ran(Command::new(env!("CARGO_BIN_EXE_dose")).args(words).arg("--program").arg(program));
+/// The front with these words and the programs that the variables name, each by its option.
+fn said(words: &[&str], programs: &[(&str, &str)]) -> String {
+    let mut command = Command::new(env!("CARGO_BIN_EXE_dose"));
+    command.args(words);
+    for (option, variable) in programs {
+        let program =
+            std::env::var_os(variable).unwrap_or_else(|| panic!("{variable} must name the proved program"));
+        command.arg(option).arg(program);
+    }
+    let ran = ran(&mut command);
     assert_eq!((ran.status, ran.complained.as_str()), (0, ""));
     ran.said
 }
 
+const TABLES: &str = concat!(env!("CARGO_MANIFEST_DIR"), "/sample/proof-table");
+const ANSWERS: (&str, &str) = ("--program", "DOSE_ANSWERS");
+const COUNTS: (&str, &str) = ("--counts-program", "DOSE_COUNTS");
+const UNIT_LIST: (&str, &str) = ("--program", "DOSE_UNIT_LIST");
+
 #[test]
 #[ignore = "needs the proved program: set DOSE_ANSWERS"]
 fn the_proof_table() {
-    let folder = format!("{SAMPLE}/proof-table");
-    let entries = format!("{folder}/entries.csv");
-    assert_eq!(said(&["check", &folder, &entries], "DOSE_ANSWERS"), sample("expected.txt"));
-    assert_eq!(said(&["check", &folder, &entries, "--csv"], "DOSE_ANSWERS"), sample("expected.csv"));
+    let entries = format!("{SAMPLE}/proof-table/entries.csv");
+    assert_eq!(said(&["check", TABLES, &entries], &[ANSWERS]), sample("expected.txt"));
+    assert_eq!(said(&["check", TABLES, &entries, "--csv"], &[ANSWERS]), sample("expected.csv"));
+}
+
+#[test]
+#[ignore = "needs the proved programs: set DOSE_ANSWERS and DOSE_COUNTS"]
+fn ranges_of_counts() {
+    let entries = format!("{SAMPLE}/ranges/entries.csv");
+    let programs = [ANSWERS, COUNTS];
+    assert_eq!(said(&["check", TABLES, &entries], &programs), ranges("expected.txt"));
+    assert_eq!(said(&["check", TABLES, &entries, "--csv"], &programs), ranges("expected.csv"));
 }
 
 #[test]
 #[ignore = "needs the proved program: set DOSE_UNIT_LIST"]
 fn document_004s_rows() {
     let expected = std::fs::read_to_string(format!("{SAMPLE}/units-004/expected.txt")).unwrap();
-    assert_eq!(said(&["units", &format!("{SAMPLE}/units-004/730.txt")], "DOSE_UNIT_LIST"), expected);
+    assert_eq!(said(&["units", &format!("{SAMPLE}/units-004/730.txt")], &[UNIT_LIST]), expected);
 }

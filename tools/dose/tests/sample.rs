@@ -1,40 +1,8 @@
 //! The sample of document 01 through the front: the bytes that the program hears and the lines that a person reads.
 
 mod common;
+use common::proof_table::*;
 use common::{sample, Room, ENTRIES, TABLES};
-
-const BLANK: u32 = u32::MAX;
-
-/// Document 01's proof table, typed again as the numbers of the stream; 730 is empty.
-const PROOF_TABLE: [&[u32]; 6] = [
-    &[103136, 3, 0, 900001, 2, 1],
-    &[103136, 0, 0, 1, 1500, 900001, 0, 0, 1, 1600, 900001, 7001, 0, 2, 1601],
-    &[1500, 3, 17752, 0, 0, 33784, 1500, 2, 17752, 0, 0, 33790, 1500, 3, 5000, 0, 0, 33785],
-    &[
-        33784, 216000, 999999, 2, 19, 70000, 80000, 0, 999999, 1, //
-        33784, 216000, 999999, 2, 19, 0, 70000, 0, 999999, 2, //
-        33784, 72000, 216000, 1, 19, 0, 999999, 0, 999999, 3, //
-        33785, 216000, 999999, 1, 19, 0, 999999, 0, 999999, 4, //
-        33790, 0, 999999, 2, 19, 0, 999999, 0, 999999, 5,
-    ],
-    &[1, 500, 2000, 3000, 2, 0, 1500, 0, 3, 0, 1000, 1500, 4, 0, 1000, 0, 5, 0, 4000, 6000],
-    &[],
-];
-
-/// The places of an entry that the K cases change.
-const GPK: usize = 0;
-const AGE: usize = 3;
-const SEX: usize = 4;
-const WEIGHT: usize = 5;
-const CARE: usize = 7;
-const REASON: usize = 8;
-const COUNT: usize = 11;
-const TIME: usize = 12;
-const LOWEST: usize = 13;
-const HIGHEST: usize = 14;
-
-const K1: [u32; 20] =
-    [103136, BLANK, BLANK, 240, BLANK, 75000, BLANK, 3, 0, 0, 0, 2, 19, 2000, 2000, 233, 233, 0, 0, BLANK];
 
 /// Document 01's changes from K1, and P1's weight, in the sample's order.
 const CHANGES: [&[(usize, u32)]; 22] = [
@@ -63,17 +31,7 @@ const CHANGES: [&[(usize, u32)]; 22] = [
 ];
 
 fn stream() -> Vec<u8> {
-    let mut numbers: Vec<u32> = PROOF_TABLE.iter().map(|table| 4 * table.len() as u32).collect();
-    numbers.push(CHANGES.len() as u32);
-    numbers.extend(PROOF_TABLE.concat());
-    for changes in CHANGES {
-        let mut entry = K1;
-        for &(place, number) in changes {
-            entry[place] = number;
-        }
-        numbers.extend(entry);
-    }
-    numbers.iter().flat_map(|number| number.to_le_bytes()).collect()
+    case(&CHANGES.map(k1_but))
 }
 
 #[test]

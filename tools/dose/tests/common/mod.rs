@@ -1,5 +1,7 @@
-//! What the tests share: a folder of their own with a copy of the sample, and the front run over a fake program.
+//! What the tests share: a folder of their own with a copy of the sample, and the front run over fake programs.
 #![allow(dead_code)] // each test file uses a part of it
+
+pub mod proof_table;
 
 use std::fs;
 use std::path::{Path, PathBuf};
@@ -9,6 +11,8 @@ pub const TABLES: [&str; 6] = ["640.csv", "641.csv", "642.csv", "643.csv", "649.
 pub const ENTRIES: &str = "entries.csv";
 pub const SAMPLE: &str = concat!(env!("CARGO_MANIFEST_DIR"), "/sample");
 pub const FAKE: &str = concat!(env!("CARGO_MANIFEST_DIR"), "/tests/fake.sh");
+/// Stands in for the program `counts`.
+pub const FAKE_COUNTS: &str = concat!(env!("CARGO_MANIFEST_DIR"), "/tests/fake_counts.sh");
 
 /// A copy of the proof table with its entries, to be changed by a test.
 pub struct Room {
@@ -31,6 +35,7 @@ impl Room {
             room.write(file, sample(file));
         }
         room.fake_says(&paper_lines());
+        room.counts_says("");
         room
     }
 
@@ -42,40 +47,54 @@ impl Room {
         self.write("says", lines);
     }
 
+    pub fn counts_says(&self, lines: &str) {
+        self.write("counts_says", lines);
+    }
+
     /// `dose check` over the room's files.
     pub fn check(&self, more: &[&str]) -> Ran {
+        let programs = ["--program", FAKE, "--counts-program", FAKE_COUNTS];
+        ran(self.check_without_programs().args(programs).args(more))
+    }
+
+    pub fn check_without_programs(&self) -> Command {
         let mut command = self.dose();
         command.arg("check").arg(&self.folder).arg(self.folder.join(ENTRIES));
-        ran(command.args(["--program", FAKE]).args(more))
+        command
     }
 
     pub fn units(&self, file: &str) -> Ran {
         ran(self.dose().arg("units").arg(self.folder.join(file)).args(["--program", FAKE]))
     }
 
-    /// The front, with the fake program's orders; what the fake heard before is forgotten.
+    /// The front, with the fake programs' orders; what they heard before is forgotten.
     pub fn dose(&self) -> Command {
-        let _ = fs::remove_file(self.heard_file());
         let mut command = Command::new(env!("CARGO_BIN_EXE_dose"));
-        command.env("FAKE_SAYS", self.folder.join("says")).env("FAKE_HEARD", self.heard_file());
+        for (variable, file) in [("FAKE_HEARD", "heard"), ("FAKE_COUNTS_HEARD", "counts_heard")] {
+            let _ = fs::remove_file(self.folder.join(file));
+            command.env(variable, self.folder.join(file));
+        }
+        command.env("FAKE_SAYS", self.folder.join("says"));
+        command.env("FAKE_COUNTS_SAYS", self.folder.join("counts_says"));
         command
-    }
-
-    fn heard_file(&self) -> PathBuf {
-        self.folder.join("heard")
     }
 
     /// What the fake program heard, if it was started.
     pub fn heard(&self) -> Option<Vec<u8>> {
-        fs::read(self.heard_file()).ok()
+        fs::read(self.folder.join("heard")).ok()
     }
 
-    /// The check must be refused with these words, without a line printed and without the program started.
+    /// What the fake program `counts` heard, if it was started.
+    pub fn counts_heard(&self) -> Option<Vec<u8>> {
+        fs::read(self.folder.join("counts_heard")).ok()
+    }
+
+    /// The check must be refused with these words, without a line printed and without a program started.
     pub fn refused(&self, words: &[&str]) {
         let ran = self.check(&[]);
         assert_eq!(ran.status, 2, "{words:?}: {}", ran.complained);
         assert_eq!(ran.said, "", "{words:?}");
-        assert!(self.heard().is_none(), "{words:?}: the program was started");
+        assert!(self.heard().is_none() && self.counts_heard().is_none(), "{words:?}: a program was started");
         assert!(ran.complained.contains("nothing was checked"), "{}", ran.complained);
         for word in words {
             assert!(ran.complained.contains(word), "`{word}` is not in:\n{}", ran.complained);
@@ -95,6 +114,20 @@ pub fn ran(command: &mut Command) -> Ran {
 /// A file of the proof table's folder.
 pub fn sample(file: &str) -> String {
     fs::read_to_string(Path::new(SAMPLE).join("proof-table").join(file)).unwrap()
+}
+
+/// A file of the sample with ranges.
+pub fn ranges(file: &str) -> String {
+    fs::read_to_string(Path::new(SAMPLE).join("ranges").join(file)).unwrap()
+}
+
+/// The header of the entries, then K1 under each of these names with this count.
+pub fn k1_with(counts: &[(&str, &str)]) -> String {
+    let entry = |(name, count): &(&str, &str)| {
+        format!("{name},103136,,,240,,75000,,3,0,0,0,{count},19,2000,2000,233,233,0,0,\n")
+    };
+    let header = sample(ENTRIES).lines().next().unwrap().to_string();
+    format!("{header}\n{}", counts.iter().map(entry).collect::<String>())
 }
 
 /// expected.csv, written from document 01, as the lines of the program `answers`.
