@@ -1,8 +1,10 @@
-//! What tools/measure-check and tools/measure-before-after measure with.
+//! What tools/measure-check, tools/measure-counts and tools/measure-before-after measure with.
 
+mod counts;
 mod large;
 mod processor;
 
+use cases::generate::case::Case;
 use second::stream::{Header, HEADER};
 use std::hint::black_box;
 use std::io::{self, Read, Write};
@@ -10,6 +12,9 @@ use std::process::ExitCode;
 use std::time::Instant;
 
 const HELP: &str = "measure case sorted|spread ENTRIES   the large case on standard output
+measure range sorted|spread          the large tables and one entry with the counts 1 to 16, for counts
+measure each sorted|spread           the same counts as the entries of one case, for answers
+measure single sorted|spread COUNT   one of them as the only entry of a case
 measure read TIMES                   nanoseconds of one reading of the tables of the case on standard input
 measure processor INPUT OUTPUT PROGRAM
                                      microseconds of the processor for a run of the program";
@@ -19,8 +24,10 @@ fn main() -> ExitCode {
     let words: Vec<&str> = words.iter().map(String::as_str).collect();
     let number = |word: &str| word.parse().unwrap_or(1);
     match words[..] {
-        ["case", "sorted", entries] => put(&large::sorted(number(entries)).bytes()),
-        ["case", "spread", entries] => put(&large::spread(number(entries)).bytes()),
+        ["case", order, entries] => put(&large(order, number(entries)).bytes()),
+        ["range", order] => put(&counts::range(large(order, SOME)).bytes()),
+        ["each", order] => put(&counts::each(large(order, SOME)).bytes()),
+        ["single", order, count] => put(&counts::single(large(order, SOME), number(count)).bytes()),
         ["read", times] => put(format!("{}\n", read(number(times))).as_bytes()),
         ["processor", input, output, program] => match processor::microseconds(input, output, program) {
             Ok(took) => put(format!("{took}\n").as_bytes()),
@@ -33,6 +40,17 @@ fn main() -> ExitCode {
             eprintln!("{HELP}");
             ExitCode::FAILURE
         }
+    }
+}
+
+/// As many entries as it takes to come to one whose rows stand in the middle of the tables.
+const SOME: u32 = 1_000;
+
+fn large(order: &str, entries: u32) -> Case {
+    match order {
+        "sorted" => large::sorted(entries),
+        "spread" => large::spread(entries),
+        _ => panic!("{order}: sorted or spread"),
     }
 }
 
