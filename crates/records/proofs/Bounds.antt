@@ -9,7 +9,7 @@ use lib.Dec.{leb, ltb}
 use Rattle.records.specs.Layout.{Reading, said, refused, read-by, scan, fits}
 use Rattle.records.specs.File730.{layout-730, record-730, reading, writable}
 use Rattle.records.specs.declared.Record730.{Record730}
-use Rattle.records.proofs.Bools.{and-split}
+use Rattle.decimals.proofs.Cases.{and-split}
 use Rattle.records.proofs.LayoutLaws.{scan-refuses}
 use Rattle.records.proofs.WritesBack.{read-writable}
 

@@ -10,7 +10,8 @@ use lib.Seq.{take-at, drop-at, drop-drop}
 use lib.Dec.{eqb}
 use Rattle.records.specs.Digits.{chars, unless}
 use Rattle.records.specs.Layout.{Part, Value, Values, Reading, said, refused, width, total, every, fixed-part, digit-part, mutation-part, values, fits-part, fits, spelt, spell, numbers, scan}
-use Rattle.records.proofs.Bools.{and-split, and-both}
+use Rattle.decimals.proofs.Cases.{and-split}
+use Rattle.records.proofs.Bools.{and-both}
 use Rattle.records.proofs.Chars.{length-chars}
 use Rattle.records.proofs.Spelling.{length-spelt, length-spell}
 use Rattle.records.proofs.PartLaws.{spelt-fixed, spelt-digit, spelt-mutation, spelt-value, value-spelt, value-fits}

@@ -10,7 +10,7 @@ use borrow.Author.Tests.{leb-true, le-leb, lt-leb}
 use lib.ListN.{length, getD}
 use lib.Dec.{leb}
 use Rattle.records.specs.Digits.{chars, digits-only, horner, unless, field-of}
-use Rattle.records.proofs.Bools.{and-split}
+use Rattle.decimals.proofs.Cases.{and-split}
 use Rattle.records.proofs.Chars.{chars-turn}
 use Rattle.records.specs.declared.parts.Field.{Field}
 use Rattle.records.specs.declared.parts.Field.the-variants.{Number, NoDigits}

@@ -10,7 +10,8 @@ use lib.ListN.{length}
 use lib.Dec.{eqb}
 use Rattle.records.specs.Digits.{same, horner}
 use Rattle.records.specs.Layout.{Part, text, mutation, number, Value, width, fixed-part, digit-part, mutation-part, value, fits-part, spelt}
-use Rattle.records.proofs.Bools.{and-split, and-both}
+use Rattle.decimals.proofs.Cases.{and-split}
+use Rattle.records.proofs.Bools.{and-both}
 use Rattle.records.proofs.Numbers.{said-below}
 use Rattle.records.proofs.SaidDigits.{said-digits, digits-are-digits, digits-said}
 

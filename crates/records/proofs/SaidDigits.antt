@@ -9,7 +9,8 @@ use borrow.Author.Tests.{le-leb}
 use lib.ListN.{length}
 use lib.Dec.{leb}
 use Rattle.records.specs.Digits.{digits, digits-only, horner}
-use Rattle.records.proofs.Bools.{and-split, and-both}
+use Rattle.decimals.proofs.Cases.{and-split}
+use Rattle.records.proofs.Bools.{and-both}
 use Rattle.records.proofs.Numbers.{digit-split, said-below}
 use Rattle.records.proofs.Stores.{length-digits}
 

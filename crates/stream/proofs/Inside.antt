@@ -1,15 +1,15 @@
 -- The tables and the entries of a case stand one behind the other, inside a case that is whole. Assumes nothing.
 use Prim.Native.Nat.{ℕ, zero, suc, _+_, _*_, _-_, _≤_, _<_}
-use mathlib.Core.Bool.{Bool, true, false, cond, _&&_}
-use mathlib.Core.Path.{_≡_, refl, sym, _∙_}
+use mathlib.Core.Bool.{Bool, true, false, cond}
+use mathlib.Core.Path.{_≡_, refl}
 use mathlib.Core.List.{List}
 use native.Mathlib.Omega.{arith}
 use native.Mathlib.Nat.{mul-le-mul-right, suc-mul}
-use borrow.Author.Tests.{le-leb, leb-true, leb-false, ltb-true, ltb-false}
-use lib.Dec.{leb, ltb}
+use borrow.Author.Tests.{leb-true, leb-false}
+use lib.Dec.{leb}
 use lib.ListN.{length}
 use Rattle.stream.specs.Entries.{number, entry-length}
-use Rattle.stream.specs.Cases.{table-count, front-length, longest-case, sum-of, start, tables-end, entry-count, entry-size, entry-start, wanted-of, most-places, lists-short, lendable, case-length, Whole, read-on, what-next}
+use Rattle.stream.specs.Cases.{table-count, front-length, longest-case, sum-of, start, tables-end, entry-count, entry-size, entry-start, lendable, case-length, Whole, read-on, what-next}
 use Rattle.stream.specs.declared.cases.Form.{Form}
 use Rattle.stream.specs.declared.cases.Form.the-variants.{Single, Range}
 use Rattle.stream.specs.declared.cases.Next.the-variants.{Read, Answer, Broken}
@@ -57,39 +57,6 @@ size-most Range n h = omega arith
 pub size-least : (f : Form) → entry-length ≤ entry-size f
 size-least Single = omega arith
 size-least Range = omega arith
-
-and-left : (s t : Bool) → (s && t) ≡ true → s ≡ true
-and-left true t h = refl
-and-left false t h = h
-
-and-right : (s t : Bool) → (s && t) ≡ true → t ≡ true
-and-right true t h = h
-and-right false t h = absurd (let z : _≡_ {A = ℕ} 0 1 = cc in let y : ⊥ = omega arith in y)
-
--- where all lists are short, each is
-pub list-short : (b : List ℕ) (n i : ℕ) → i < n → lists-short b n ≡ true → wanted-of b i .places ≤ most-places
-unfolding lists-short
-list-short b zero i h t = absurd (let y : ⊥ = omega arith in y)
-list-short b (suc n) i h t = go (λ k. list-short b n i k (and-left (lists-short b n) (leb (wanted-of b n .places) most-places) t)) (ltb i n) refl
-  where
-    go : (i < n → wanted-of b i .places ≤ most-places) → (s : Bool) → ltb i n ≡ s → wanted-of b i .places ≤ most-places
-    go before true e = before (ltb-true i n e)
-    go before false e =
-        let k : i ≡ n = omega (arith, ltb-false i n e) in
-        rw k (leb-true (wanted-of b n .places) most-places (and-right (lists-short b n) (leb (wanted-of b n .places) most-places) t))
-
-pub list-long : (b : List ℕ) (n i : ℕ) → i < n → most-places < wanted-of b i .places → lists-short b n ≡ false
-list-long b n i h l = go (lists-short b n) (list-short b n i h)
-  where
-    go : (s : Bool) → (s ≡ true → wanted-of b i .places ≤ most-places) → s ≡ false
-    go true short = absurd (let y : ⊥ = omega (arith, short refl) in y)
-    go false short = refl
-
-pub next-short : (b : List ℕ) (i next : ℕ) → next ≡ i + 1 → lists-short b i ≡ true → wanted-of b i .places ≤ most-places → lists-short b next ≡ true
-unfolding lists-short
-next-short b i next n h l =
-    let s : next ≡ suc i = omega arith in
-    rw (s, h) (le-leb (wanted-of b i .places) most-places l)
 
 -- a case is answered where it is whole
 not-answer : (ended : Bool) (have until : ℕ) → read-on ended have until ≡ Answer → ⊥

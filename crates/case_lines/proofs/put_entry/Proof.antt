@@ -6,7 +6,7 @@ use mathlib.Core.Path.{_≡_, refl, sym, ap, _∙_}
 use native.Mathlib.Omega.{arith}
 use lib.ListN.{length}
 use Rattle.stream.specs.Cases.{entry-count, most-places, wanted-of, lendable}
-use Rattle.stream.proofs.Inside.{list-short}
+use Rattle.stream.proofs.Lists.{list-short}
 use Rattle.case_lines.proofs.Tables.{single-lines, range-lines-of}
 use Rattle.case_lines.proofs.put_entry.Statement.{statement}
 use Rattle.case_lines.proofs.put_entry.Tie as tie

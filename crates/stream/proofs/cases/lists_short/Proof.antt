@@ -7,7 +7,8 @@ use mathlib.Core.Path.{_≡_, refl, sym, _∙_}
 use native.Mathlib.Omega.{arith}
 use Rattle.stream.specs.Cases.{entry-count, wanted-of, lists-short, lendable}
 use Rattle.stream.specs.declared.cases.Form.the-variants.{Range}
-use Rattle.stream.proofs.Inside.{front-inside, tables-inside, list-long, next-short}
+use Rattle.stream.proofs.Inside.{front-inside, tables-inside}
+use Rattle.stream.proofs.Lists.{list-long, next-short}
 use Rattle.stream.proofs.cases.lists_short.Statement.{statement}
 use Rattle.stream.proofs.cases.lists_short.Tie as tie
 
