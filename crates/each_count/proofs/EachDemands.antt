@@ -16,7 +16,7 @@ use Rattle.guideline.specs.declared.entries.Datum.{Datum}
 use Rattle.guideline.specs.Bytes.{Lents, spelled}
 use Rattle.guideline.specs.Entries.{datum, permitted, with-count}
 use Rattle.guideline.specs.Check.{answer-length, numbers-of, outcome, place-of, check}
-use Rattle.guideline.specs.Counts.{place, list-after}
+use Rattle.guideline.specs.Counts.{place}
 use Rattle.guideline.specs.ProofTable.{proof-table, bytes-printed}
 use Rattle.guideline.proofs.CountExamples.{ranges, all-hold, counts-of-K1-as-bytes}
 use Rattle.guideline.proofs.CountLaws.{place-answered, rest-behind}

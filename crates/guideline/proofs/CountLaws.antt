@@ -1,15 +1,15 @@
 -- The list behind a range check (P2), place by place: the answer of each count, and behind the last all as it was. Assumes nothing.
-use Prim.Native.Nat.{ℕ, zero, suc, _+_, _*_, _-_, _≤_, _<_}
+use Prim.Native.Nat.{ℕ, zero, suc, _+_, _*_, _≤_, _<_}
 use mathlib.Core.Bool.{Bool, true, false, cond}
-use mathlib.Core.List.{List, [], _++_, append-assoc}
-use mathlib.Core.Path.{_≡_, refl, sym, ap, _∙_}
+use mathlib.Core.List.{List, _++_, append-assoc}
+use mathlib.Core.Path.{_≡_, refl, sym, _∙_}
 use native.Mathlib.Omega.{arith}
 use native.Mathlib.Nat.{zero-mul, suc-mul}
 use borrow.Author.Tests.{ltb-true, ltb-false}
 use lib.Dec.{ltb}
 use lib.ListN.{length, take, drop, length-append}
 use lib.Seq.{take-at, drop-at}
-use Rattle.guideline.specs.Types.{Entry, Counted, Listed, RangeRefused, NoRange, NoRoom}
+use Rattle.guideline.specs.Types.{Entry, Listed, RangeRefused, NoRange, NoRoom}
 use Rattle.guideline.specs.Rows.{Tables}
 use Rattle.guideline.specs.Check.{answer-length}
 use Rattle.guideline.specs.Counts.{in-turn, answer-for, answers-from, counts-in, most-counts, place, counted}
@@ -44,9 +44,6 @@ next-in-turn f n = refl
 module _ (t : Tables) (e : Entry) (first : ℕ) where
   abbrev each : ℕ → List ℕ
   each i = answer-for t e (first + i)
-
-  pub length-answers : (n : ℕ) → length (answers-from t e first n) ≡ n * answer-length
-  length-answers n = length-in-turn each answer-length (λ i. refl) n
 
   -- place i is that of the check's answer for count first + i, whatever stands behind
   pub place-answered : (n i : ℕ) (rest : List ℕ) → i < n → place i (answers-from t e first n ++ rest) ≡ answer-for t e (first + i)

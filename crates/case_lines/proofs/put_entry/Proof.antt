@@ -1,10 +1,7 @@
 -- Each form has its lines. Assumes nothing.
-use Prim.Native.Nat.{_+_, _≤_}
+use Prim.Native.Nat.{_≤_}
 use borrow.Author.Needs.{needs}
 use denote.Ref.{now}
-use mathlib.Core.Path.{_≡_, refl, sym, ap, _∙_}
-use native.Mathlib.Omega.{arith}
-use lib.ListN.{length}
 use Rattle.stream.specs.Cases.{entry-count, most-places, wanted-of, lendable}
 use Rattle.stream.proofs.Lists.{list-short}
 use Rattle.case_lines.proofs.Tables.{single-lines, range-lines-of}

@@ -3,11 +3,11 @@ use Prim.Native.Nat.{_+_, _*_, _-_, _≤_}
 use borrow.Author.Needs.{needs}
 use denote.Ref.{now}
 use mathlib.Core.List.{_++_}
-use mathlib.Core.Path.{_≡_, refl, sym, _∙_}
+use mathlib.Core.Path.{_≡_, refl, _∙_}
 use native.Mathlib.Omega.{arith}
 use lib.ListN.{length, drop}
 use Rattle.guideline.specs.Bytes.{lents, spelled}
-use Rattle.guideline.specs.Check.{answer-length, check}
+use Rattle.guideline.specs.Check.{answer-length}
 use Rattle.guideline.specs.Counts.{in-turn, answer-for, answers-from}
 use Rattle.each_count.proofs.OneMore.{answered, one-more}
 use Rattle.each_count.proofs.put_answers.Statement.{statement}

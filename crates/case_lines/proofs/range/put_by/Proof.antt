@@ -1,12 +1,7 @@
 -- What stands in the list are the answers of the range check. Assumes nothing.
-use Prim.Native.Nat.{_*_}
 use borrow.Author.Needs.{needs}
 use denote.Ref.{now}
-use mathlib.Core.Path.{_≡_, refl, sym, _∙_}
-use native.Mathlib.Omega.{arith}
-use lib.ListN.{length}
-use Rattle.guideline.specs.Bytes.{lents, spelled}
-use Rattle.guideline.specs.Check.{answer-length}
+use Rattle.guideline.specs.Bytes.{lents}
 use Rattle.case_lines.proofs.Ranges.{short-list, lines-answered}
 use Rattle.case_lines.proofs.range.put_by.Statement.{statement}
 use Rattle.case_lines.proofs.range.put_by.Tie as tie

@@ -1,6 +1,6 @@
 -- Only a range wants a list. Assumes nothing.
 use borrow.Author.Needs.{needs}
-use mathlib.Core.Path.{refl, sym, _∙_}
+use mathlib.Core.Path.{refl}
 use Rattle.stream.specs.Cases.{lendable}
 use Rattle.stream.proofs.cases.can_lend.Statement.{statement}
 use Rattle.stream.proofs.cases.can_lend.Tie as tie
