@@ -136,7 +136,7 @@ fn answer_all(form: Form, case: &mut [u8], out: &mut [u8])
     }
 }
 
-// The room for a case as an array: its length needs no proof, for which four million zeros would be written out.
+// The room for a case goes in as an array, whose type says its length: for a slice the proof would write out four million zeros.
 fn answer_stream(form: Form, case: &mut [u8; stream::cases::LONGEST]) {
     let mut out = io::large_buffer();
     answer_all(form, case, &mut out);

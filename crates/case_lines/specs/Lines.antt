@@ -6,8 +6,8 @@ use mathlib.Core.List.{List, [], _∷_}
 use lib.Dec.{leb, ltb}
 use lib.ListN.{length}
 use Rattle.decimals.specs.Put.{Put}
-use Rattle.guideline.specs.declared.counts.Counted.{Counted}
-use Rattle.guideline.specs.declared.counts.Counted.the-variants.{Listed, Refused}
+use Rattle.guideline.specs.declared.counted.Counted.{Counted}
+use Rattle.guideline.specs.declared.counted.Counted.the-variants.{All, Refused}
 use Rattle.guideline.specs.declared.entries.Entry.{Entry}
 use Rattle.guideline.specs.Bytes.{Lents, spelled}
 use Rattle.guideline.specs.Rows.{Tables}
@@ -29,7 +29,7 @@ answer-line t e = line (numbers-of (check t e))
 
 -- and from the range check, f i the numbers of answer i: "it prints `131` or `132`, or one line for each answer"
 abbrev pub counted-lines : (ℕ → List ℕ) → Counted → List ℕ
-counted-lines f (Listed n) = in-turn (λ i. line (f i)) n
+counted-lines f (All n) = in-turn (λ i. line (f i)) n
 counted-lines f (Refused why) = line (refusal-number why ∷ [])
 
 unfoldable pub range-lines : Tables → Entry → Wanted → List ℕ
@@ -55,10 +55,10 @@ abbrev pub longest-text : Form → ℕ
 longest-text Single = longest-line
 longest-text Range = longest-range
 
--- answers that stand in a list of so many numbers
-abbrev pub Short : Counted → ℕ → Type 0
-Short (Listed n) long = (n ≤ most-counts) × (n * answer-length ≤ long)
-Short (Refused why) long = Unit {0}
+-- at most 16 answers, all inside a list of so many numbers
+abbrev pub InList : Counted → ℕ → Type 0
+InList (All n) long = (n ≤ most-counts) × (n * answer-length ≤ long)
+InList (Refused why) long = Unit {0}
 
 -- what was tested of the tables
 abbrev pub Fitting : Test → Lents → Type 0

@@ -84,9 +84,9 @@ fn put_entry(
 
 // Over the tables of the case.
 fn put_lines(
-    form: Form,
+    f: Form,
     case: &[u8],
-    test: Test,
+    t: Test,
     t640: &[u8],
     t641: &[u8],
     t642: &[u8],
@@ -97,11 +97,11 @@ fn put_lines(
     out: &mut [u8],
     at: usize,
 ) -> Progress
-    requires { ⌜ Ready form (now case) test from (length (now out)) at × (lents (now t640) (now t641) (now t642) (now t643) (now t649) (now t730) ≡ tables-of (now case)) ⌝ }
-    ensures { λ r. ⌜ Answered form (now (case .entry)) from (now (out .entry)) at (now (out .exit)) r ⌝ }
+    requires { ⌜ Ready f (now case) t from (length (now out)) at × (lents (now t640) (now t641) (now t642) (now t643) (now t649) (now t730) ≡ tables-of (now case)) ⌝ }
+    ensures { λ r. ⌜ Answered f (now (case .entry)) from (now (out .entry)) at (now (out .exit)) r ⌝ }
 {
     let n = stream::cases::entry_count(case);
-    let longest = longest(form);
+    let longest = longest(f);
     let mut i = from;
     let mut end = at;
     while i < n {
@@ -112,20 +112,7 @@ fn put_lines(
                 more: true,
             };
         }
-        end = put_entry(
-            form,
-            case,
-            i,
-            test,
-            t640,
-            t641,
-            t642,
-            t643,
-            t649,
-            t730,
-            out,
-            end,
-        );
+        end = put_entry(f, case, i, t, t640, t641, t642, t643, t649, t730, out, end);
         i += 1;
     }
     Progress {

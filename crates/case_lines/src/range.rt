@@ -5,14 +5,16 @@ ghost use lib.ListN.{length};
 ghost use Rattle.decimals.specs.Put.{Put};
 ghost use Rattle.guideline.specs.Bytes.{lents, spelled};
 ghost use Rattle.guideline.specs.Check.{answer-length};
-ghost use Rattle.guideline.specs.Counts.{in-turn, place};
+ghost use Rattle.guideline.specs.Counts.{in-turn, numbers-at};
 ghost use Rattle.each_count.specs.Each.{AnswersEach};
 ghost use Rattle.stream.specs.Cases.{most-places};
 ghost use Rattle.stream.specs.Lines.{line, longest-line};
-ghost use Rattle.case_lines.specs.Lines.{Fitting, Short, counted-lines, range-lines, longest-range};
+ghost use Rattle.case_lines.specs.Lines.{Fitting, InList, counted-lines, range-lines, longest-range};
 use crate::Test;
+use each_count::check_each;
+use each_count::check_each_after;
 use guideline::answer::Answer;
-use guideline::counts::Counted;
+use guideline::counted::Counted;
 use guideline::entries::Entry;
 use stream::cases::Wanted;
 
@@ -39,19 +41,8 @@ fn answer(
     ensures { λ r. ⌜ AnswersEach (lents (now (t640 .entry)) (now (t641 .entry)) (now (t642 .entry)) (now (t643 .entry)) (now (t649 .entry)) (now (t730 .entry))) e first last (now (list .entry)) (now (list .exit)) r ⌝ }
 {
     match test {
-        Test::ByCheck => each_count::check_each(
-            t640,
-            t641,
-            t642,
-            t643,
-            t649,
-            t730,
-            e,
-            first,
-            last,
-            list,
-        ),
-        Test::Once(s) => each_count::check_each_after(
+        Test::ByCheck => check_each(t640, t641, t642, t643, t649, t730, e, first, last, list),
+        Test::Once(s) => check_each_after(
             s,
             t640,
             t641,
@@ -70,7 +61,7 @@ fn answer(
 // The lines of the first n places.
 fn put_places(list: &[u32], n: usize, out: &mut [u8], at: usize) -> usize
     requires { ⌜ (n * answer-length ≤ length (now list)) × (at + n * longest-line ≤ length (now out)) ⌝ }
-    ensures { λ r. ⌜ Put (now (out .entry)) at (in-turn (λ i. line (place i (now (list .entry)))) n) (now (out .exit)) r × (r ≤ at + n * longest-line) ⌝ }
+    ensures { λ r. ⌜ Put (now (out .entry)) at (in-turn (λ i. line (numbers-at i (now (list .entry)))) n) (now (out .exit)) r × (r ≤ at + n * longest-line) ⌝ }
 {
     let mut end = at;
     let mut i: usize = 0;
@@ -84,11 +75,11 @@ fn put_places(list: &[u32], n: usize, out: &mut [u8], at: usize) -> usize
 }
 
 fn put_counted(counted: Counted, list: &[u32], out: &mut [u8], at: usize) -> usize
-    requires { ⌜ Short counted (length (now list)) × (at + longest-range ≤ length (now out)) ⌝ }
-    ensures { λ r. ⌜ Put (now (out .entry)) at (counted-lines (λ i. place i (now (list .entry))) counted) (now (out .exit)) r × (r ≤ at + longest-range) ⌝ }
+    requires { ⌜ InList counted (length (now list)) × (at + longest-range ≤ length (now out)) ⌝ }
+    ensures { λ r. ⌜ Put (now (out .entry)) at (counted-lines (λ i. numbers-at i (now (list .entry))) counted) (now (out .exit)) r × (r ≤ at + longest-range) ⌝ }
 {
     match counted {
-        Counted::Listed(n) => put_places(list, n, out, at),
+        Counted::All(n) => put_places(list, n, out, at),
         Counted::Refused(why) => stream::lines::put_numbers(&[why.number()], out, at),
     }
 }

@@ -7,16 +7,16 @@ use mathlib.Core.Path.{_≡_, refl, sym, _∙_, ap, subst}
 use lib.Dec.{T}
 use lib.ListN.{getD, drop}
 use Rattle.guideline.specs.declared.answer.Answer.{Answer}
-use Rattle.guideline.specs.declared.counts.Counted.{Counted}
-use Rattle.guideline.specs.declared.counts.Counted.the-variants.{Listed, Refused}
-use Rattle.guideline.specs.declared.counts.RangeRefusal.{RangeRefusal}
+use Rattle.guideline.specs.declared.counted.Counted.{Counted}
+use Rattle.guideline.specs.declared.counted.Counted.the-variants.{All, Refused}
+use Rattle.guideline.specs.declared.counted.RangeRefusal.{RangeRefusal}
 use Rattle.guideline.specs.declared.entries.Value.the-variants.{Blank}
 use Rattle.guideline.specs.declared.entries.Entry.{Entry}
 use Rattle.guideline.specs.declared.entries.Datum.{Datum}
 use Rattle.guideline.specs.Bytes.{Lents, spelled}
 use Rattle.guideline.specs.Entries.{datum, permitted, with-count}
 use Rattle.guideline.specs.Check.{answer-length, numbers-of, outcome, place-of, check}
-use Rattle.guideline.specs.Counts.{place}
+use Rattle.guideline.specs.Counts.{numbers-at}
 use Rattle.guideline.specs.ProofTable.{proof-table, bytes-printed}
 use Rattle.guideline.proofs.CountExamples.{ranges, all-hold, counts-of-K1-as-bytes}
 use Rattle.guideline.proofs.CountLaws.{place-answered, rest-behind}
@@ -31,7 +31,7 @@ use Rattle.each_count.proofs.Lists.{refused-list, answers-list}
 
 -- the answer's number at place i
 abbrev pub answer-at : ℕ → List ℕ → ℕ
-answer-at i list = getD (place i list) 0 0
+answer-at i list = getD (numbers-at i list) 0 0
 
 -- one of 101 to 106
 abbrev Asks : ℕ → Type 0
@@ -47,23 +47,23 @@ module _ (b : Lents) (first last : ℕ) where
   refusal-leaves e old new why p = p .1 ∙ refused-list (spelled b) e first last old why (sym (p .0))
 
   -- what stands behind the last answer is as it was
-  pub rest-leaves : (e : Entry) (old new : List ℕ) (n : ℕ) → AnswersEach b e first last old new (Listed n) → drop (n * answer-length) new ≡ drop (n * answer-length) old
+  pub rest-leaves : (e : Entry) (old new : List ℕ) (n : ℕ) → AnswersEach b e first last old new (All n) → drop (n * answer-length) new ≡ drop (n * answer-length) old
   rest-leaves e old new n p =
       ap (drop (n * answer-length)) (p .1 ∙ answers-list (spelled b) e first last old n (sym (p .0))) ∙ rest-behind (spelled b) e first n (drop (n * answer-length) old)
 
   -- place i holds what the single check answers for count first + i, by the check's own promise
-  pub place-answers : (e : Entry) (old new : List ℕ) (n i : ℕ) {a : Answer} → AnswersEach b e first last old new (Listed n) → i < n → Answers b (with-count (first + i) e) a → place i new ≡ numbers-of a
+  pub place-answers : (e : Entry) (old new : List ℕ) (n i : ℕ) {a : Answer} → AnswersEach b e first last old new (All n) → i < n → Answers b (with-count (first + i) e) a → numbers-at i new ≡ numbers-of a
   place-answers e old new n i p h a =
-      ap (place i) (p .1 ∙ answers-list (spelled b) e first last old n (sym (p .0))) ∙ place-answered (spelled b) e first n i (drop (n * answer-length) old) h ∙ ap numbers-of (sym a)
+      ap (numbers-at i) (p .1 ∙ answers-list (spelled b) e first last old n (sym (p .0))) ∙ place-answered (spelled b) e first n i (drop (n * answer-length) old) h ∙ ap numbers-of (sym a)
 
   -- Demand 1: each place is one of document 01's list.
-  pub demand-1-each : (e : Entry) (old new : List ℕ) (n i : ℕ) → AnswersEach b e first last old new (Listed n) → i < n → (a : Answer) × (place i new ≡ numbers-of a) × T (listed a) × T (right at-least-1 a)
+  pub demand-1-each : (e : Entry) (old new : List ℕ) (n i : ℕ) → AnswersEach b e first last old new (All n) → i < n → (a : Answer) × (numbers-at i new ≡ numbers-of a) × T (listed a) × T (right at-least-1 a)
   demand-1-each e old new n i p h =
       let d = demand-1 b (with-count (first + i) e) refl in
       (check (spelled b) (with-count (first + i) e), place-answers e old new n i p h refl, d .0, d .1)
 
   -- Demand 3, first half, for each place: an answer other than 101 to 106 stays the same, all its numbers, whatever blank is filled.
-  pub demand-3-same-each : (e : Entry) (q : Datum) (v : ℕ) (old new old' new' : List ℕ) (n n' i : ℕ) → AnswersEach b e first last old new (Listed n) → AnswersEach b (fill q v e) first last old' new' (Listed n') → i < n → i < n' → (Asks (answer-at i new) → ⊥) → datum (e .known) q ≡ Blank → permitted q v ≡ true → place i new' ≡ place i new
+  pub demand-3-same-each : (e : Entry) (q : Datum) (v : ℕ) (old new old' new' : List ℕ) (n n' i : ℕ) → AnswersEach b e first last old new (All n) → AnswersEach b (fill q v e) first last old' new' (All n') → i < n → i < n' → (Asks (answer-at i new) → ⊥) → datum (e .known) q ≡ Blank → permitted q v ≡ true → numbers-at i new' ≡ numbers-at i new
   unfolding fill
   demand-3-same-each e q v old new old' new' n n' i p p' h h' other blank allowed =
       let f = with-count (first + i) e in
@@ -72,7 +72,7 @@ module _ (b : Lents) (first last : ℕ) where
       there ∙ ap numbers-of (demand-3-same b f q v refl refl (λ x. other (subst Asks (sym (ap (λ l. getD l 0 0) here)) x)) blank allowed) ∙ sym here
 
   -- Demand 3, second half, for each place: 101 to 106 names a blank datum, and filling it leads to an answer later in document 01's order.
-  pub demand-3-later-each : (e : Entry) (old new : List ℕ) (n i : ℕ) → AnswersEach b e first last old new (Listed n) → i < n → Asks (answer-at i new) → (q : Datum) × (answer-at i new ≡ asking q) × (datum (e .known) q ≡ Blank) × ((v : ℕ) → permitted q v ≡ true → place-of (outcome (spelled b) (with-count (first + i) e)) < place-of (outcome (spelled b) (with-count (first + i) (fill q v e))))
+  pub demand-3-later-each : (e : Entry) (old new : List ℕ) (n i : ℕ) → AnswersEach b e first last old new (All n) → i < n → Asks (answer-at i new) → (q : Datum) × (answer-at i new ≡ asking q) × (datum (e .known) q ≡ Blank) × ((v : ℕ) → permitted q v ≡ true → place-of (outcome (spelled b) (with-count (first + i) e)) < place-of (outcome (spelled b) (with-count (first + i) (fill q v e))))
   unfolding fill
   demand-3-later-each e old new n i p h asks =
       let number = ap (λ (l : List ℕ). getD l 0 0) (place-answers e old new n i p h refl) in
@@ -80,7 +80,7 @@ module _ (b : Lents) (first last : ℕ) where
       (m .0, number ∙ m .1, m .2, m .3)
 
 -- Reordering the rows of a lent table changes no place.
-pub reordering-each : (b c : Lents) (first last : ℕ) (e : Entry) (old new old' new' : List ℕ) (n n' i : ℕ) → AnswersEach b e first last old new (Listed n) → AnswersEach c e first last old' new' (Listed n') → i < n → i < n' → ReorderedBytes b c → place i new ≡ place i new'
+pub reordering-each : (b c : Lents) (first last : ℕ) (e : Entry) (old new old' new' : List ℕ) (n n' i : ℕ) → AnswersEach b e first last old new (All n) → AnswersEach c e first last old' new' (All n') → i < n → i < n' → ReorderedBytes b c → numbers-at i new ≡ numbers-at i new'
 reordering-each b c first last e old new old' new' n n' i p p' h h' k =
     place-answers b first last e old new n i p h refl ∙ ap numbers-of (reordering b c (with-count (first + i) e) refl refl k) ∙ sym (place-answers c first last e old' new' n' i p' h' refl)
 

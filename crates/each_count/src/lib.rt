@@ -10,8 +10,8 @@ ghost use Rattle.guideline.specs.Counts.{counted, answers-from};
 ghost use Rattle.ranges.specs.Soundly.{soundness};
 ghost use Rattle.each_count.specs.Each.{how-many, AnswersEach};
 use guideline::answer::Answer;
-use guideline::counts::Counted;
-use guideline::counts::RangeRefusal;
+use guideline::counted::Counted;
+use guideline::counted::RangeRefusal;
 use guideline::entries::Entry;
 use ranges::sound::Soundness;
 
@@ -29,7 +29,7 @@ fn count(first: u32, last: u32, places: usize) -> Counted
         if places < n {
             return Counted::Refused(RangeRefusal::NoRoom);
         }
-        return Counted::Listed(n);
+        return Counted::All(n);
     }
     Counted::Refused(RangeRefusal::NoRange)
 }
@@ -38,7 +38,7 @@ fn how_many(counted: Counted) -> usize
     ensures { λ r. ⌜ r ≡ how-many counted ⌝ }
 {
     match counted {
-        Counted::Listed(n) => n,
+        Counted::All(n) => n,
         Counted::Refused(_) => 0,
     }
 }
@@ -130,7 +130,7 @@ pub fn check_each(
     ensures { λ r. ⌜ AnswersEach (lents (now (t640 .entry)) (now (t641 .entry)) (now (t642 .entry)) (now (t643 .entry)) (now (t649 .entry)) (now (t730 .entry))) e first last (now (list .entry)) (now (list .exit)) r ⌝ }
 {
     let counted = count(first, last, list.len() / Answer::LENGTH);
-    let Counted::Listed(_) = counted else {
+    let Counted::All(_) = counted else {
         return counted;
     };
     let s = ranges::sound::tables_sound(t640, t641, t642, t643, t649, t730);

@@ -3,7 +3,7 @@ use Prim.Native.Nat.{ℕ, zero, suc}
 use mathlib.Core.Bool.{Bool, true, _&&_}
 use mathlib.Core.List.{List, [], _∷_, _++_}
 use lib.Dec.{T, eqb}
-use Rattle.guideline.specs.Types.{Counted, Listed, RangeRefused}
+use Rattle.guideline.specs.Types.{Counted, All, RangeRefused}
 use Rattle.guideline.specs.Bytes.{spelled}
 use Rattle.guideline.specs.Entries.{read-entry}
 use Rattle.guideline.specs.Rows.{Tables}
@@ -16,7 +16,7 @@ abbrev sevens : ℕ → List ℕ
 sevens zero = 7 ∷ 7 ∷ []
 sevens (suc n) = 7 ∷ 7 ∷ 7 ∷ 7 ∷ 7 ∷ 7 ∷ 7 ∷ 7 ∷ sevens n
 
--- a range of K1, with its own count changed: the refusal, and the list behind the call
+-- a range of K1, with its own count changed: the refusal, and the list after the call
 pub record Range : Type 0 where
   pub own : ℕ
   pub first : ℕ
@@ -28,7 +28,7 @@ pub record Range : Type 0 where
 abbrev range : ℕ → ℕ → ℕ → ℕ → ℕ → List ℕ → Range
 range own first last places refusal list = record { own = own; first = first; last = last; places = places; refusal = refusal; list = list }
 
--- K1 has a row for twice a day alone
+-- at K1's age all rows are for twice a day
 abbrev other-count : List ℕ
 other-count = 115 ∷ 24 ∷ 0 ∷ 1500 ∷ 33784 ∷ 0 ∷ 0 ∷ 0 ∷ []
 
@@ -53,7 +53,7 @@ ranges =
     -- 131: the first above the last; before 132, and before 125
     ∷ range 2 3 2 4 131 (sevens 4)
     ∷ range 0 3 2 0 131 (sevens 0)
-    -- 131: over 16 counts, and not 16; 4,294,967,296 counts are no 0
+    -- 131: 17 counts, where 16 pass; and 4,294,967,296, which must not be taken for 0
     ∷ range 2 1 17 17 131 (sevens 17)
     ∷ range 2 1_000 1_015 16 0 (no-count ++ no-count ++ no-count ++ no-count ++ no-count ++ no-count ++ no-count ++ no-count ++ no-count ++ no-count ++ no-count ++ no-count ++ no-count ++ no-count ++ no-count ++ no-count ++ sevens 0)
     ∷ range 2 0 4_294_967_295 1 131 (sevens 1)
@@ -65,7 +65,7 @@ ranges =
 
 -- 0 where there is no refusal
 abbrev number : Counted → ℕ
-number (Listed n) = 0
+number (All n) = 0
 number (RangeRefused why) = refusal-number why
 
 abbrev holds : Tables → Range → Bool

@@ -1,4 +1,4 @@
--- The list behind a range check (P2), place by place: the answer of each count, and behind the last all as it was. Assumes nothing.
+-- The list after a range check (P2), place by place: the answer of each count, and behind the last all as it was. Assumes nothing.
 use Prim.Native.Nat.{ℕ, zero, suc, _+_, _*_, _≤_, _<_}
 use mathlib.Core.Bool.{Bool, true, false, cond}
 use mathlib.Core.List.{List, _++_, append-assoc}
@@ -9,10 +9,10 @@ use borrow.Author.Tests.{ltb-true, ltb-false}
 use lib.Dec.{ltb}
 use lib.ListN.{length, take, drop, length-append}
 use lib.Seq.{take-at, drop-at}
-use Rattle.guideline.specs.Types.{Entry, Listed, RangeRefused, NoRange, NoRoom}
+use Rattle.guideline.specs.Types.{Entry, All, RangeRefused, NoRange, NoRoom}
 use Rattle.guideline.specs.Rows.{Tables}
 use Rattle.guideline.specs.Check.{answer-length}
-use Rattle.guideline.specs.Counts.{in-turn, answer-for, answers-from, counts-in, most-counts, place, counted}
+use Rattle.guideline.specs.Counts.{in-turn, answer-for, answers-from, counts-in, most-counts, numbers-at, counted}
 
 -- pieces that are all w long
 module _ (f : ℕ → List ℕ) (w : ℕ) (long : (i : ℕ) → length (f i) ≡ w) where
@@ -45,19 +45,19 @@ module _ (t : Tables) (e : Entry) (first : ℕ) where
   abbrev each : ℕ → List ℕ
   each i = answer-for t e (first + i)
 
-  -- place i is that of the check's answer for count first + i, whatever stands behind
-  pub place-answered : (n i : ℕ) (rest : List ℕ) → i < n → place i (answers-from t e first n ++ rest) ≡ answer-for t e (first + i)
+  -- place i holds the check's answer for count first + i, whatever stands behind the last
+  pub place-answered : (n i : ℕ) (rest : List ℕ) → i < n → numbers-at i (answers-from t e first n ++ rest) ≡ answer-for t e (first + i)
   place-answered n i rest h = piece-in-turn each answer-length (λ i. refl) n i rest h
 
   pub rest-behind : (n : ℕ) (rest : List ℕ) → drop (n * answer-length) (answers-from t e first n ++ rest) ≡ rest
   rest-behind n rest = behind-in-turn each answer-length (λ i. refl) n rest
 
 -- a range that is not refused has from 1 to 16 counts, as many as there are places or fewer
-pub listed-fits : (first last places n : ℕ) → counted first last places ≡ Listed n → (1 ≤ n) × (n ≤ most-counts) × (n ≤ places) × (first + n ≡ suc last)
+pub listed-fits : (first last places n : ℕ) → counted first last places ≡ All n → (1 ≤ n) × (n ≤ most-counts) × (n ≤ places) × (first + n ≡ suc last)
 unfolding counted
 listed-fits first last places n = go (ltb last first) (ltb most-counts (counts-in first last)) (ltb places (counts-in first last)) (ltb-false last first) (ltb-false most-counts (counts-in first last)) (ltb-false places (counts-in first last))
   where
-    go : (above over short : Bool) → (above ≡ false → first ≤ last) → (over ≡ false → counts-in first last ≤ most-counts) → (short ≡ false → counts-in first last ≤ places) → cond above (RangeRefused NoRange) (cond over (RangeRefused NoRange) (cond short (RangeRefused NoRoom) (Listed (counts-in first last)))) ≡ Listed n → (1 ≤ n) × (n ≤ most-counts) × (n ≤ places) × (first + n ≡ suc last)
+    go : (above over short : Bool) → (above ≡ false → first ≤ last) → (over ≡ false → counts-in first last ≤ most-counts) → (short ≡ false → counts-in first last ≤ places) → cond above (RangeRefused NoRange) (cond over (RangeRefused NoRange) (cond short (RangeRefused NoRoom) (All (counts-in first last)))) ≡ All n → (1 ≤ n) × (n ≤ most-counts) × (n ≤ places) × (first + n ≡ suc last)
     go true over short f g k h = absurd (let z : _≡_ {A = ℕ} 0 1 = cc in let y : ⊥ = omega arith in y)
     go false true short f g k h = absurd (let z : _≡_ {A = ℕ} 0 1 = cc in let y : ⊥ = omega arith in y)
     go false false true f g k h = absurd (let z : _≡_ {A = ℕ} 0 1 = cc in let y : ⊥ = omega arith in y)

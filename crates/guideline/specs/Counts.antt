@@ -4,7 +4,7 @@ use mathlib.Core.Bool.{cond}
 use mathlib.Core.List.{List, [], _++_}
 use lib.Dec.{ltb}
 use lib.ListN.{length, take, drop}
-use Rattle.guideline.specs.Types.{Entry, Counted, Listed, RangeRefused, RangeRefusal, NoRange, NoRoom}
+use Rattle.guideline.specs.Types.{Entry, Counted, All, RangeRefused, RangeRefusal, NoRange, NoRoom}
 use Rattle.guideline.specs.Entries.{with-count}
 use Rattle.guideline.specs.Rows.{Tables}
 use Rattle.guideline.specs.Check.{answer-length, numbers-of, check}
@@ -29,19 +29,19 @@ counts-in first last = suc last - first
 abbrev pub most-counts : ℕ
 most-counts = 16
 
--- the places of a lent list; each holds the numbers of one answer
+-- the places of a lent list; each holds the numbers of one answer, place i those from i * 8 on
 abbrev pub places-in : List ℕ → ℕ
 places-in list = length list / answer-length
 
-abbrev pub place : ℕ → List ℕ → List ℕ
-place i list = take answer-length (drop (i * answer-length) list)
+abbrev pub numbers-at : ℕ → List ℕ → List ℕ
+numbers-at i list = take answer-length (drop (i * answer-length) list)
 
 -- "131 if the first count is above the last or the range has over 16 counts, then 132 if the list is too short; both come before 125"
 unfoldable pub counted : ℕ → ℕ → ℕ → Counted
 counted first last places =
     cond (ltb last first) (RangeRefused NoRange)
     (cond (ltb most-counts (counts-in first last)) (RangeRefused NoRange)
-    (cond (ltb places (counts-in first last)) (RangeRefused NoRoom) (Listed (counts-in first last))))
+    (cond (ltb places (counts-in first last)) (RangeRefused NoRoom) (All (counts-in first last))))
 
 abbrev pub refusal-number : RangeRefusal → ℕ
 refusal-number NoRange = 131
@@ -49,7 +49,7 @@ refusal-number NoRoom = 132
 
 -- "In a lent list, places beyond the last unchanged"; a refusal writes nothing
 abbrev pub listing : Tables → Entry → ℕ → Counted → List ℕ → List ℕ
-listing t e first (Listed n) list = answers-from t e first n ++ drop (n * answer-length) list
+listing t e first (All n) list = answers-from t e first n ++ drop (n * answer-length) list
 listing t e first (RangeRefused why) list = list
 
 unfoldable pub list-after : Tables → Entry → ℕ → ℕ → List ℕ → List ℕ

@@ -3,7 +3,7 @@ use Prim.Native.Nat.{_≤_}
 use borrow.Author.Needs.{needs}
 use denote.Ref.{now}
 use Rattle.stream.specs.Cases.{entry-count, most-places, wanted-of, lendable}
-use Rattle.stream.proofs.Lists.{list-short}
+use Rattle.stream.proofs.Lists.{list-lendable}
 use Rattle.case_lines.proofs.Tables.{single-lines, range-lines-of}
 use Rattle.case_lines.proofs.put_entry.Statement.{statement}
 use Rattle.case_lines.proofs.put_entry.Tie as tie
@@ -27,7 +27,7 @@ unfolding lendable
 short c =
     let a = c .before .before .before .before .before .before .before .before .before .before .before .before .before .args in
     let pre = c .before .before .before .before .before .before .before .before .before .before .before .before .before .pre in
-    rw (c .before .wanted-of .ensures) (list-short (now (a .case)) (entry-count (now (a .case))) (a .i) (pre .1) (rw (c .before .before .enum-told2 .given .1) at (pre .0 .lists)))
+    rw (c .before .wanted-of .ensures) (list-lendable (now (a .case)) (entry-count (now (a .case))) (a .i) (pre .1) (rw (c .before .before .enum-told2 .given .1) at (pre .0 .lists)))
 
 put-requires-2 : tie.Need-put-requires-2
 put-requires-2 c κs =

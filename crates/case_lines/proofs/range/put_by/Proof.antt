@@ -2,7 +2,7 @@
 use borrow.Author.Needs.{needs}
 use denote.Ref.{now}
 use Rattle.guideline.specs.Bytes.{lents}
-use Rattle.case_lines.proofs.Ranges.{short-list, lines-answered}
+use Rattle.case_lines.proofs.Ranges.{answers-in-list, lines-answered}
 use Rattle.case_lines.proofs.range.put_by.Statement.{statement}
 use Rattle.case_lines.proofs.range.put_by.Tie as tie
 
@@ -10,7 +10,7 @@ put-counted-requires : tie.Need-put-counted-requires
 put-counted-requires c κs =
     let a = c .before .before .before .before .before .before .before .before .before .before .before .before .before .before .args in
     let answer = c .before .before .before .before .answer in
-    (short-list (lents (now (a .t640)) (now (a .t641)) (now (a .t642)) (now (a .t643)) (now (a .t649)) (now (a .t730))) (a .e) (a .w) (now (a .list)) _ (c .before .before .before .before .before .before .before .before .before .before .before .before .before .before .pre .1) (answer .result) (answer .ensures) (answer .kept .1 .1 .1 .1 .1 .1 .1 .1 .1 .1 .0), c .before .before .before .before .before .before .before .before .before .before .before .before .before .before .pre .2)
+    (answers-in-list (lents (now (a .t640)) (now (a .t641)) (now (a .t642)) (now (a .t643)) (now (a .t649)) (now (a .t730))) (a .e) (a .w) (now (a .list)) _ (c .before .before .before .before .before .before .before .before .before .before .before .before .before .before .pre .1) (answer .result) (answer .ensures) (answer .kept .1 .1 .1 .1 .1 .1 .1 .1 .1 .1 .0), c .before .before .before .before .before .before .before .before .before .before .before .before .before .before .pre .2)
 
 returns : tie.Need-returns
 returns c =

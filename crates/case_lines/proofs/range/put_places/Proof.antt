@@ -7,7 +7,7 @@ use native.Mathlib.Omega.{arith}
 use lib.ListN.{length, take, drop}
 use Rattle.decimals.specs.Put.{Put}
 use Rattle.guideline.specs.Check.{answer-length}
-use Rattle.guideline.specs.Counts.{in-turn, place}
+use Rattle.guideline.specs.Counts.{in-turn, numbers-at}
 use Rattle.stream.specs.Lines.{line, longest-line}
 use Rattle.case_lines.proofs.Places.{part-long, place-put}
 use Rattle.case_lines.proofs.Turns.{put-next}
@@ -16,7 +16,7 @@ use Rattle.case_lines.proofs.range.put_places.Tie as tie
 
 abbrev Inv-loop : tie.InvT-loop
 Inv-loop list n out₀ at end₀ i₀ out end i =
-    (i ≤ n) × (length out ≡ length out₀) × (end ≤ at + i * longest-line) × Put out₀ at (in-turn (λ k. line (place k list)) i) out end
+    (i ≤ n) × (length out ≡ length out₀) × (end ≤ at + i * longest-line) × Put out₀ at (in-turn (λ k. line (numbers-at k list)) i) out end
 
 abbrev μ-loop : tie.MeasureT-loop
 μ-loop list n out₀ at end₀ i₀ out end i = n - i
@@ -57,7 +57,7 @@ loop-again c =
     let long : length (take (i * answer-length + answer-length - i * answer-length) (drop (i * answer-length) list)) ≡ answer-length = part-long list i (i * answer-length) (i * answer-length + answer-length - i * answer-length) refl (omega arith) (omega (arith, c .before .before .before .before .before .before .before .before .before .pre .0, c .before .before .before .before .before .loop-test .taken)) in
     let inv = c .before .before .before .before .before .before .loop .inv in
     let put = c .before .before .put-numbers .ensures in
-    (omega (arith, c .before .before .before .before .before .loop-test .taken), c .before .before .put-numbers .kept .1 .0 ∙ inv .1, omega (arith, put .1, inv .2), put-next (λ k. line (place k list)) _ _ _ _ _ _ i (i + 1) (inv .3) (place-put list i (i * answer-length) (i * answer-length + answer-length - i * answer-length) (put .0) refl (omega arith)) refl)
+    (omega (arith, c .before .before .before .before .before .loop-test .taken), c .before .before .put-numbers .kept .1 .0 ∙ inv .1, omega (arith, put .1, inv .2), put-next (λ k. line (numbers-at k list)) _ _ _ _ _ _ i (i + 1) (inv .3) (place-put list i (i * answer-length) (i * answer-length + answer-length - i * answer-length) (put .0) refl (omega arith)) refl)
 
 same-length : tie.Need-same-length Inv-loop μ-loop
 same-length c = c .before .loop .inv .1

@@ -2,9 +2,9 @@
 ghost use mathlib.Core.Path.{_≡_};
 ghost use Rattle.guideline.specs.Counts.{refusal-number};
 
-// So many answers stand in the lent list; or the refusal, by which the list is as it was.
+// Each count has its answer, and so many stand in the lent list; or the refusal, and then the list is as it was.
 pub enum Counted {
-    Listed(usize),
+    All(usize),
     Refused(RangeRefusal),
 }
 
