@@ -11,15 +11,19 @@ use Rattle.guideline.specs.declared.counted.Counted.{Counted}
 use Rattle.guideline.specs.declared.counted.Counted.the-variants.{All, Refused}
 use Rattle.guideline.specs.declared.counted.RangeRefusal.{RangeRefusal}
 use Rattle.guideline.specs.declared.entries.Value.the-variants.{Blank}
+use Rattle.guideline.specs.declared.entries.Switch.the-variants.{NotGiven, Position}
 use Rattle.guideline.specs.declared.entries.Entry.{Entry}
 use Rattle.guideline.specs.declared.entries.Datum.{Datum}
 use Rattle.guideline.specs.Bytes.{Lents, spelled}
-use Rattle.guideline.specs.Entries.{datum, permitted, with-count}
+use Rattle.guideline.specs.Values.{on}
+use Rattle.guideline.specs.Entries.{datum, permitted, with-count, with-months}
 use Rattle.guideline.specs.Check.{answer-length, numbers-of, outcome, place-of, check}
-use Rattle.guideline.specs.Counts.{numbers-at}
+use Rattle.guideline.specs.Counts.{on-unless-given, numbers-at}
 use Rattle.guideline.specs.ProofTable.{proof-table, bytes-printed}
-use Rattle.guideline.proofs.CountExamples.{ranges, all-hold, counts-of-K1-as-bytes}
+use Rattle.guideline.proofs.CountExamples.{ranges, ranges-of-months, all-hold, counts-of-K1-as-bytes, months-of-ranges-as-bytes}
 use Rattle.guideline.proofs.CountLaws.{place-answered, rest-behind}
+use Rattle.guideline.proofs.Months.{range-not-given-is-on}
+use Rattle.guideline.proofs.TwinTraps.{twin-tables}
 use Rattle.guideline.proofs.Fill.{fill, asking}
 use Rattle.guideline.proofs.Shuffle.{ReorderedBytes}
 use Rattle.guideline.proofs.Shapes.{right, at-least-1}
@@ -51,39 +55,50 @@ module _ (b : Lents) (first last : ℕ) where
   rest-leaves e old new n p =
       ap (drop (n * answer-length)) (p .1 ∙ answers-list (spelled b) e first last old n (sym (p .0))) ∙ rest-behind (spelled b) e first n (drop (n * answer-length) old)
 
-  -- place i holds what the single check answers for count first + i, by the check's own promise
-  pub place-answers : (e : Entry) (old new : List ℕ) (n i : ℕ) {a : Answer} → AnswersEach b e first last old new (All n) → i < n → Answers b (with-count (first + i) e) a → numbers-at i new ≡ numbers-of a
+  -- place i holds what the single check answers for count first + i, months on unless given, by the check's own promise
+  pub place-answers : (e : Entry) (old new : List ℕ) (n i : ℕ) {a : Answer} → AnswersEach b e first last old new (All n) → i < n → Answers b (with-count (first + i) (on-unless-given e)) a → numbers-at i new ≡ numbers-of a
   place-answers e old new n i p h a =
       ap (numbers-at i) (p .1 ∙ answers-list (spelled b) e first last old n (sym (p .0))) ∙ place-answered (spelled b) e first n i (drop (n * answer-length) old) h ∙ ap numbers-of (sym a)
+
+  -- P3, "each of its answers equals the single check with on" where none is given; a setting that is given stands.
+  pub place-with-on : (e : Entry) (old new : List ℕ) (n i : ℕ) {a : Answer} → AnswersEach b (with-months NotGiven e) first last old new (All n) → i < n → Answers b (with-count (first + i) (with-months (Position on) e)) a → numbers-at i new ≡ numbers-of a
+  place-with-on e old new n i p h a = place-answers (with-months NotGiven e) old new n i p h a
+
+  pub place-as-given : (e : Entry) (position : ℕ) (old new : List ℕ) (n i : ℕ) {a : Answer} → AnswersEach b (with-months (Position position) e) first last old new (All n) → i < n → Answers b (with-count (first + i) (with-months (Position position) e)) a → numbers-at i new ≡ numbers-of a
+  place-as-given e position old new n i p h a = place-answers (with-months (Position position) e) old new n i p h a
+
+  -- P3: a range with months not given is the range with months on, its result and its list.
+  pub months-not-given-each : (e : Entry) (old : List ℕ) {new new' : List ℕ} {r r' : Counted} → AnswersEach b (with-months NotGiven e) first last old new r → AnswersEach b (with-months (Position on) e) first last old new' r' → (r ≡ r') × (new ≡ new')
+  months-not-given-each e old p q = (p .0 ∙ sym (q .0), p .1 ∙ range-not-given-is-on (spelled b) e first last old ∙ sym (q .1))
 
   -- Demand 1: each place is one of document 01's list.
   pub demand-1-each : (e : Entry) (old new : List ℕ) (n i : ℕ) → AnswersEach b e first last old new (All n) → i < n → (a : Answer) × (numbers-at i new ≡ numbers-of a) × T (listed a) × T (right at-least-1 a)
   demand-1-each e old new n i p h =
-      let d = demand-1 b (with-count (first + i) e) refl in
-      (check (spelled b) (with-count (first + i) e), place-answers e old new n i p h refl, d .0, d .1)
+      let d = demand-1 b (with-count (first + i) (on-unless-given e)) refl in
+      (check (spelled b) (with-count (first + i) (on-unless-given e)), place-answers e old new n i p h refl, d .0, d .1)
 
   -- Demand 3, first half, for each place: an answer other than 101 to 106 stays the same, all its numbers, whatever blank is filled.
   pub demand-3-same-each : (e : Entry) (q : Datum) (v : ℕ) (old new old' new' : List ℕ) (n n' i : ℕ) → AnswersEach b e first last old new (All n) → AnswersEach b (fill q v e) first last old' new' (All n') → i < n → i < n' → (Asks (answer-at i new) → ⊥) → datum (e .known) q ≡ Blank → permitted q v ≡ true → numbers-at i new' ≡ numbers-at i new
   unfolding fill
   demand-3-same-each e q v old new old' new' n n' i p p' h h' other blank allowed =
-      let f = with-count (first + i) e in
+      let f = with-count (first + i) (on-unless-given e) in
       let here = place-answers e old new n i p h refl in
       let there = place-answers (fill q v e) old' new' n' i p' h' refl in
       there ∙ ap numbers-of (demand-3-same b f q v refl refl (λ x. other (subst Asks (sym (ap (λ l. getD l 0 0) here)) x)) blank allowed) ∙ sym here
 
   -- Demand 3, second half, for each place: 101 to 106 names a blank datum, and filling it leads to an answer later in document 01's order.
-  pub demand-3-later-each : (e : Entry) (old new : List ℕ) (n i : ℕ) → AnswersEach b e first last old new (All n) → i < n → Asks (answer-at i new) → (q : Datum) × (answer-at i new ≡ asking q) × (datum (e .known) q ≡ Blank) × ((v : ℕ) → permitted q v ≡ true → place-of (outcome (spelled b) (with-count (first + i) e)) < place-of (outcome (spelled b) (with-count (first + i) (fill q v e))))
+  pub demand-3-later-each : (e : Entry) (old new : List ℕ) (n i : ℕ) → AnswersEach b e first last old new (All n) → i < n → Asks (answer-at i new) → (q : Datum) × (answer-at i new ≡ asking q) × (datum (e .known) q ≡ Blank) × ((v : ℕ) → permitted q v ≡ true → place-of (outcome (spelled b) (with-count (first + i) (on-unless-given e))) < place-of (outcome (spelled b) (with-count (first + i) (on-unless-given (fill q v e)))))
   unfolding fill
   demand-3-later-each e old new n i p h asks =
       let number = ap (λ (l : List ℕ). getD l 0 0) (place-answers e old new n i p h refl) in
-      let m = demand-3-later b (with-count (first + i) e) refl (subst Asks number asks) in
+      let m = demand-3-later b (with-count (first + i) (on-unless-given e)) refl (subst Asks number asks) in
       (m .0, number ∙ m .1, m .2, m .3)
 
 -- Reordering the rows of a lent table changes no place.
 pub reordering-each : (b c : Lents) (first last : ℕ) (e : Entry) (old new old' new' : List ℕ) (n n' i : ℕ) → AnswersEach b e first last old new (All n) → AnswersEach c e first last old' new' (All n') → i < n → i < n' → ReorderedBytes b c → numbers-at i new ≡ numbers-at i new'
 reordering-each b c first last e old new old' new' n n' i p p' h h' k =
-    place-answers b first last e old new n i p h refl ∙ ap numbers-of (reordering b c (with-count (first + i) e) refl refl k) ∙ sym (place-answers c first last e old' new' n' i p' h' refl)
+    place-answers b first last e old new n i p h refl ∙ ap numbers-of (reordering b c (with-count (first + i) (on-unless-given e)) refl refl k) ∙ sym (place-answers c first last e old' new' n' i p' h' refl)
 
--- Demand 2 is the promise itself; on K1 of document 01's proof table it gives the ranges of the list.
-pub demand-2-each : T (all-hold (spelled (bytes-printed proof-table)) ranges)
-demand-2-each = counts-of-K1-as-bytes
+-- Demand 2 is the promise itself; on K1 of document 01's proof table, and on the twins of weeks and months, it gives the ranges of the lists.
+pub demand-2-each : T (all-hold (spelled (bytes-printed proof-table)) ranges) × T (all-hold (spelled (bytes-printed twin-tables)) ranges-of-months)
+demand-2-each = (counts-of-K1-as-bytes, months-of-ranges-as-bytes)

@@ -11,11 +11,11 @@ use Rattle.guideline.specs.declared.entries.Entry.{Entry}
 use Rattle.guideline.specs.Entries.{with-count}
 use Rattle.guideline.specs.Rows.{Tables}
 use Rattle.guideline.specs.Check.{numbers-of, check}
-use Rattle.guideline.specs.Counts.{in-turn, answer-for}
+use Rattle.guideline.specs.Counts.{in-turn, single, on-unless-given, answers-from}
 use Rattle.guideline.proofs.CountLaws.{next-in-turn, length-in-turn}
 
 -- the numbers of the check's answer for the entry with a count
-pub answered : (t : Tables) (e : Entry) (count : ℕ) {f : Entry} {a : Answer} {l : List ℕ} → f ≡ with-count count e → a ≡ check t f → l ≡ numbers-of a → l ≡ answer-for t e count
+pub answered : (t : Tables) (e : Entry) (count : ℕ) {f : Entry} {a : Answer} {l : List ℕ} → f ≡ with-count count e → a ≡ check t f → l ≡ numbers-of a → l ≡ single t e count
 answered t e count p q r = r ∙ ap numbers-of (q ∙ ap (check t) p)
 
 -- what is stored behind the front takes the place of as many numbers
@@ -32,3 +32,7 @@ module _ (f : ℕ → List ℕ) (w : ℕ) (long : (i : ℕ) → length (f i) ≡
       let s : next ≡ suc i = omega arith in
       let m : next * w ≡ i * w + w = ap (λ (k : ℕ). k * w) s ∙ suc-mul i w in
       q ∙ ap (λ (l : List ℕ). sets l (i * w) (f i)) p ∙ stored (in-turn f i) old (f i) (i * w) w (length-in-turn f w long i) (long i) (omega arith) ∙ rw (m, s, next-in-turn f i) refl
+
+-- the single checks of what a range asks are its answers
+pub all-answered : (t : Tables) (e : Entry) (first n : ℕ) (rest : List ℕ) {asked : Entry} {list : List ℕ} → asked ≡ on-unless-given e → list ≡ in-turn (λ k. single t asked (first + k)) n ++ rest → list ≡ answers-from t e first n ++ rest
+all-answered t e first n rest p q = q ∙ ap (λ (f : Entry). in-turn (λ k. single t f (first + k)) n ++ rest) p

@@ -6,13 +6,14 @@ ghost use lib.ListN.{length, drop};
 ghost use lib.Seq.{sets};
 ghost use Rattle.guideline.specs.Bytes.{lents, spelled};
 ghost use Rattle.guideline.specs.Check.{answer-length};
-ghost use Rattle.guideline.specs.Counts.{counted, answers-from};
+ghost use Rattle.guideline.specs.Counts.{on-unless-given, counted, answers-from};
 ghost use Rattle.ranges.specs.Soundly.{soundness};
 ghost use Rattle.each_count.specs.Each.{how-many, AnswersEach};
 use guideline::answer::Answer;
 use guideline::counted::Counted;
 use guideline::counted::RangeRefusal;
 use guideline::entries::Entry;
+use guideline::entries::Switch;
 use ranges::sound::Soundness;
 
 const MOST_COUNTS: usize = 16;
@@ -54,6 +55,15 @@ fn put_numbers(list: &mut [u32], at: usize, numbers: &[u32])
     }
 }
 
+// P3: the range check "says on where its entry gives no setting".
+fn on_unless_given(e: Entry) -> Entry
+    ensures { λ r. ⌜ r ≡ on-unless-given e ⌝ }
+{
+    let rest = e.rest;
+    let months = rest.months;
+    e.with_months(months.given_or(Switch::ON))
+}
+
 // n answers, from that of the first count on.
 fn put_answers(
     s: Soundness,
@@ -71,10 +81,12 @@ fn put_answers(
     requires { ⌜ (s ≡ soundness (lents (now t640) (now t641) (now t642) (now t643) (now t649) (now t730))) × (n * answer-length ≤ length (now list)) × (first + n ≤ 4_294_967_296) ⌝ }
     ensures { λ _. ⌜ now (list .exit) ≡ answers-from (spelled (lents (now (t640 .entry)) (now (t641 .entry)) (now (t642 .entry)) (now (t643 .entry)) (now (t649 .entry)) (now (t730 .entry)))) e first n ++ drop (n * answer-length) (now (list .entry)) ⌝ }
 {
+    let asked = on_unless_given(e);
     let mut i: usize = 0;
     while i < n {
         let count = first + i as u32;
-        let a = dosecheck::check_after(s, t640, t641, t642, t643, t649, t730, e.with_count(count));
+        let one = asked.with_count(count);
+        let a = dosecheck::check_after(s, t640, t641, t642, t643, t649, t730, one);
         put_numbers(list, i * Answer::LENGTH, &a.numbers());
         i += 1;
     }

@@ -1,8 +1,10 @@
--- Traps of the time units: "Twins: 21 and 22, 50 and 51; with months on also 35 and 36, 40 and 41. Never 45 and 46." Category 7 has once a unit
--- of each pair and twice the other, so that each pair is tried both ways. ExamplesOfTraps.antt proves them.
+-- Traps of the time units: "Twins: 21 and 22, 50 and 51; with months on also 35 and 36, 40 and 41. Never 45 and 46." Each pair is
+-- tried with months on, off and not given, which is off (P3). Category 7 has once a unit of each pair and twice the other, so that each pair is
+-- tried both ways. ExamplesOfTraps.antt proves them.
 use Prim.Native.Nat.{ℕ}
 use mathlib.Core.List.{List, [], _∷_, _++_}
 use Rattle.guideline.specs.Types.{T640, T641, T642, T643, T649, T730}
+use Rattle.guideline.specs.Values.{off, on}
 use Rattle.guideline.specs.Entries.{blank}
 use Rattle.guideline.specs.ProofTable.{Printed, put, K1, Case, gives}
 
@@ -28,12 +30,6 @@ twin-tables T649 =
     ∷ []
 twin-tables T730 = []
 
-abbrev off : ℕ
-off = 0
-
-abbrev on : ℕ
-on = 1
-
 -- K1 with another frequency and months setting
 abbrev entered : ℕ → ℕ → ℕ → ℕ → ℕ
 entered count unit months = put 11 count (put 12 unit (put 19 months K1))
@@ -50,11 +46,11 @@ abbrev always : ℕ → ℕ → List Case
 always a b =
     against 1 b off a ∷ against 1 b on a ∷ against 1 b blank a ∷ against 2 a off b ∷ against 2 a on b ∷ against 2 a blank b ∷ []
 
-abbrev with-months : ℕ → ℕ → List Case
-with-months a b = no-twin 1 b off ∷ against 1 b on a ∷ against 1 b blank a ∷ no-twin 2 a off ∷ against 2 a on b ∷ against 2 a blank b ∷ []
+abbrev with-months-on : ℕ → ℕ → List Case
+with-months-on a b = no-twin 1 b off ∷ against 1 b on a ∷ no-twin 1 b blank ∷ no-twin 2 a off ∷ against 2 a on b ∷ no-twin 2 a blank ∷ []
 
 abbrev never : ℕ → ℕ → List Case
 never a b = no-twin 1 b off ∷ no-twin 1 b on ∷ no-twin 1 b blank ∷ no-twin 2 a off ∷ no-twin 2 a on ∷ no-twin 2 a blank ∷ []
 
 unfoldable pub twin-traps : List Case
-twin-traps = always 21 22 ++ always 50 51 ++ with-months 35 36 ++ with-months 40 41 ++ never 45 46
+twin-traps = always 21 22 ++ always 50 51 ++ with-months-on 35 36 ++ with-months-on 40 41 ++ never 45 46

@@ -1,11 +1,12 @@
--- P2, "1 to 3 times a day": document 001, 3.4.1, checks 1, 2 and 3 per day each by itself.
+-- P2, "1 to 3 times a day": document 001, 3.4.1, checks 1, 2 and 3 per day each by itself. P3 says what a range takes for months that are not given.
 use Prim.Native.Nat.{ℕ, zero, suc, _+_, _*_, _-_, _/_}
 use mathlib.Core.Bool.{cond}
 use mathlib.Core.List.{List, [], _++_}
 use lib.Dec.{ltb}
 use lib.ListN.{length, take, drop}
 use Rattle.guideline.specs.Types.{Entry, Counted, All, RangeRefused, RangeRefusal, NoRange, NoRoom}
-use Rattle.guideline.specs.Entries.{with-count}
+use Rattle.guideline.specs.Values.{on, given-or}
+use Rattle.guideline.specs.Entries.{with-count, with-months}
 use Rattle.guideline.specs.Rows.{Tables}
 use Rattle.guideline.specs.Check.{answer-length, numbers-of, check}
 
@@ -14,9 +15,16 @@ unfoldable pub in-turn : (ℕ → List ℕ) → ℕ → List ℕ
 in-turn f zero = []
 in-turn f (suc n) = in-turn f n ++ f n
 
--- "Each equals the single check for that count"; the entry's own count is not looked at
+-- "the single check for that count"; the entry's own count is not looked at
+abbrev pub single : Tables → Entry → ℕ → List ℕ
+single t e count = numbers-of (check t (with-count count e))
+
+-- P3: "The range check of P2 says on where its entry gives no setting, so each of its answers equals the single check with on."
+abbrev pub on-unless-given : Entry → Entry
+on-unless-given e = with-months (given-or on (e .rest .months)) e
+
 abbrev pub answer-for : Tables → Entry → ℕ → List ℕ
-answer-for t e count = numbers-of (check t (with-count count e))
+answer-for t e count = single t (on-unless-given e) count
 
 -- "One answer per count, rising": n answers, from that of the first count on
 abbrev pub answers-from : Tables → Entry → ℕ → ℕ → List ℕ

@@ -1,7 +1,7 @@
 // One prescription to be checked.
 ghost use mathlib.Core.Path.{_≡_};
-ghost use Rattle.guideline.specs.Entries.{with-count};
-ghost use Rattle.guideline.specs.Values.{switched};
+ghost use Rattle.guideline.specs.Entries.{with-count, with-months};
+ghost use Rattle.guideline.specs.Values.{switched, given-or};
 
 // The six data that an entry may leave blank.
 pub enum Datum {
@@ -30,12 +30,22 @@ impl Switch {
 
     pub const ON: u32 = 1;
 
-    pub fn on(self, unless_given: bool) -> bool
-        ensures { λ r. ⌜ r ≡ switched self «unless_given» ⌝ }
+    // P3: not given means off.
+    pub fn on(self) -> bool
+        ensures { λ r. ⌜ r ≡ switched self ⌝ }
     {
         match self {
-            Switch::NotGiven => unless_given,
+            Switch::NotGiven => false,
             Switch::Position(position) => position == Switch::ON,
+        }
+    }
+
+    pub fn given_or(self, position: u32) -> Switch
+        ensures { λ r. ⌜ r ≡ given-or position self ⌝ }
+    {
+        match self {
+            Switch::NotGiven => Switch::Position(position),
+            Switch::Position(given) => Switch::Position(given),
         }
     }
 }
@@ -53,6 +63,30 @@ impl Entry {
         let known = self.known;
         let mut rest = self.rest;
         rest.count = count;
+        Entry { known, rest }
+    }
+
+    pub fn with_months(self, months: Switch) -> Entry
+        ensures { λ r. ⌜ r ≡ with-months months self ⌝ }
+    {
+        let p = self.rest;
+        let rest = Prescription {
+            gpk: p.gpk,
+            care: p.care,
+            reason: p.reason,
+            icpcto: p.icpcto,
+            route: p.route,
+            count: p.count,
+            time: p.time,
+            lowest: p.lowest,
+            highest: p.highest,
+            entered: p.entered,
+            base: p.base,
+            srtcde: p.srtcde,
+            code: p.code,
+            months,
+        };
+        let known = self.known;
         Entry { known, rest }
     }
 }

@@ -2,7 +2,7 @@
 //! single check gives for that count.
 
 use cases::generate::case::Case;
-use cases::generate::counts::{count_case, CountCase};
+use cases::generate::counts::{at_count, count_case, CountCase};
 use cases::generate::proof_ranges::{k_1_to_3, lines_over_bad_tables, over_bad_tables, ranges, K_1_TO_3, RANGES};
 use cases::generate::proof_table::{k1, k_case, K};
 use second::check::counts::check_counts;
@@ -80,9 +80,7 @@ fn one_by_one(case: &CountCase) -> Case {
     for (entry, range) in case.case.entries.iter().zip(&case.ranges) {
         let answered = (1..=16).contains(&range.counts()) && range.counts() <= range.places as u64;
         for count in (range.first..=range.last).take_while(|_| answered) {
-            let mut entry = *entry;
-            entry[COUNT] = count;
-            single.entries.push(entry);
+            single.entries.push(at_count(*entry, count));
         }
     }
     single

@@ -75,17 +75,14 @@ fn file(name: &str) -> Vec<u8> {
     fs::read(format!("{}/../../crates/{name}", env!("CARGO_MANIFEST_DIR"))).expect(name)
 }
 
-/// What the gate runs the proved programs on: K1 to K15 first, thousands of cases, below 5 MB.
+/// What the gate runs the proved programs on: K1 to K15 first, thousands of cases, about 5 MB.
 #[test]
 fn the_stored_files_are_these_vectors() {
     let (stdin, stdout) = store::stream(&STORED);
     assert!(file("answers/stdin") == stdin && file("answers/stdout") == stdout, "run tools/store-cases");
     assert!(stdin.starts_with(&proof_table::with(&proof_table::K[..proof_table::BEFORE_P1]).bytes()));
-    assert!(
-        STORED.len() == store::CASES + store::key_cases().len() + store::p1_cases().len()
-            && store::CASES >= 3_000
-            && stdin.len() < 5_000_000
-    );
+    let later = [store::key_cases(), store::p1_cases(), store::p3_cases()].concat().len();
+    assert!(STORED.len() == store::CASES + later && store::CASES >= 3_000 && stdin.len() < 5_100_000);
     let units = store::unit_input();
     assert!(file("unit_list/stdin").starts_with(&units), "run tools/store-cases");
     assert!(file("unit_list/stdout").starts_with(&unit_list(&units)), "run tools/store-cases");
@@ -102,7 +99,7 @@ fn the_stored_ranges_are_these_vectors() {
     let (stdin, stdout) = store_counts::stream(&cases);
     assert!(file("counts/stdin") == stdin && file("counts/stdout") == stdout, "run tools/store-cases");
     assert!(stdin.starts_with(&proof_ranges::k_1_to_3().bytes()) && stdout.ends_with(b"\nbroken\n"));
-    assert!(cases.len() == store_counts::CASES && stdin.len() < 400_000);
+    assert!(cases.len() == store_counts::CASES + store_counts::p3_cases().len() && stdin.len() < 400_000);
     let mut lines = vec![];
     run(&COUNTS, &stdin[..], &mut lines).expect("a slice is read and a vector written");
     assert!(lines == stdout);

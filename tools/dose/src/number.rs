@@ -22,6 +22,7 @@ pub fn read(cell: &str, content: Content) -> Result<Value, String> {
         Content::Wide => filled(cell).and_then(wide),
         Content::NumberOrBlank if cell.is_empty() => Ok(BLANK),
         Content::NumberOrBlank => narrow(cell),
+        // no default for months here: P3 gives one count and a range different ones, and the programs have them
         Content::OnOffOrBlank => match cell {
             "" => Ok(BLANK),
             "on" => Ok(ON),

@@ -49,7 +49,7 @@ fn write_rows(room: &Room, file: &str, row: &str, count: usize) {
 fn many_entries_are_split_and_keep_their_order() {
     let room = Room::new("many_entries");
     let count = 60_000;
-    let entry = |i| format!("{},,,240,,75000,,3,0,0,0,2,19,2000,2000,233,233,0,0,\n", i + 1);
+    let entry = |i| format!("{},,,240,,75000,,3,0,0,0,2,19,2000,2000,233,233,0,0,on\n", i + 1);
     let header = sample(ENTRIES).lines().next().unwrap().replace("name,", "");
     room.write(ENTRIES, format!("{header}\n{}", (0..count).map(entry).collect::<String>()));
     room.fake_says(&ANSWER.repeat(count));

@@ -156,14 +156,6 @@ fn a_blank_cell() {
 }
 
 #[test]
-fn months_on_and_off() {
-    let room = Room::new("months_on_and_off");
-    room.write("730.csv", UNIT_ROW);
-    assert_eq!(entry_number(&heard_with(&room, ENTRIES, 20, "on"), 19), [1, 0, 0, 0]);
-    assert_eq!(entry_number(&heard_with(&room, ENTRIES, 20, "off"), 19), [0, 0, 0, 0]);
-}
-
-#[test]
 fn lines_that_are_not_rows() {
     let room = Room::new("lines_that_are_not_rows");
     room.write("640.csv", "GPKODE,GPDGST,GPRISC\n103136,3\n");

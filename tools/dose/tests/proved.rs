@@ -2,7 +2,7 @@
 //! programs: `DOSE_ANSWERS=... DOSE_COUNTS=... DOSE_UNIT_LIST=... cargo test -- --include-ignored`.
 
 mod common;
-use common::{ran, ranges, sample, SAMPLE};
+use common::{months, ran, ranges, sample, SAMPLE};
 use std::process::Command;
 
 /// The front with these words and the programs that the variables name, each by its option.
@@ -39,6 +39,16 @@ fn ranges_of_counts() {
     let programs = [ANSWERS, COUNTS];
     assert_eq!(said(&["check", TABLES, &entries], &programs), ranges("expected.txt"));
     assert_eq!(said(&["check", TABLES, &entries, "--csv"], &programs), ranges("expected.csv"));
+}
+
+#[test]
+#[ignore = "needs the proved programs: set DOSE_ANSWERS and DOSE_COUNTS"]
+fn months_against_weeks() {
+    let tables = format!("{SAMPLE}/months");
+    let entries = format!("{tables}/entries.csv");
+    let programs = [ANSWERS, COUNTS];
+    assert_eq!(said(&["check", &tables, &entries], &programs), months("expected.txt"));
+    assert_eq!(said(&["check", &tables, &entries, "--csv"], &programs), months("expected.csv"));
 }
 
 #[test]

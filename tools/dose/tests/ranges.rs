@@ -2,7 +2,7 @@
 
 mod common;
 use common::proof_table::*;
-use common::{k1_with, ran, ranges, Room, ENTRIES, FAKE, FAKE_COUNTS};
+use common::{k1_with, program_line, ran, ranges, Room, ENTRIES, FAKE, FAKE_COUNTS};
 use std::fs;
 use std::os::unix::fs::symlink;
 use std::path::Path;
@@ -49,15 +49,6 @@ fn room(test: &str) -> Room {
     room.fake_says(&says(plain));
     room.counts_says(&says(ranged));
     room
-}
-
-/// A line of expected.csv as the program writes it.
-fn program_line(line: &str) -> String {
-    let numbers = line.splitn(3, ',').nth(2).unwrap();
-    if numbers.starts_with("131,") {
-        return "131\n".to_string();
-    }
-    numbers.replace(',', " ") + "\n"
 }
 
 #[test]

@@ -2,7 +2,7 @@
 
 use cases::generate::case::{Case, Numbers};
 use cases::random::Random;
-use second::check::entry::BLANK;
+use second::check::entry::{BLANK, MONTHS_ON};
 use second::check::Table::{T640, T641, T642, T643, T649, T730};
 
 const ROWS: u64 = 20_000;
@@ -73,6 +73,6 @@ fn entry(n: u32) -> Numbers {
     let highest = 1_997 + n % 4;
     [
         gpk, prk, hpk, age, BLANK, weight, BLANK, care, reason, 0, route, count, 19, 1_997, highest, 233, 234, 3, code,
-        BLANK,
+        MONTHS_ON,
     ]
 }

@@ -1,7 +1,7 @@
 //! Document 02, P2: cases whose entries have a range of counts and a list for the answers.
 
-use super::case::{push_numbers, Case};
-use super::{case, light_made, LONG_CASES, ROUND};
+use super::case::{push_numbers, Case, Numbers};
+use super::{case, light_made, months, LONG_CASES, ROUND};
 use crate::random::Random;
 use second::check::counts::COUNTS_MOST;
 use second::check::entry::{COUNT, COUNT_MOST};
@@ -58,6 +58,14 @@ impl CountCase {
         };
         Some(CountCase { case, ranges: entries.map(range).collect() })
     }
+}
+
+/// What the single check is asked for a count of an entry's range: by P3 with months on, where the entry gives no
+/// setting.
+pub fn at_count(mut entry: Numbers, count: u32) -> Numbers {
+    entry[COUNT] = count;
+    months::say_on(std::slice::from_mut(&mut entry));
+    entry
 }
 
 /// Case `number` of the run, with ranges.

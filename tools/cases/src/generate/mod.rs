@@ -10,6 +10,7 @@ pub mod full;
 mod heavy;
 pub mod joints;
 mod model;
+pub mod months;
 pub mod order;
 mod plain;
 pub mod proof_ranges;
@@ -59,7 +60,8 @@ pub fn light_case(seed: u64, number: u64) -> Case {
 
 /// The cases were made for rows that fit at both ends. In half of them the high ends that the first entry lies on are
 /// raised, so that it is found as before; in the others it lies on an end that does not count. A twelfth get rows that
-/// meet besides. K1 to K15 and long tables, which may be full, are left alone.
+/// meet besides, and a twelfth rows of time units that stand beside each other. K1 to K15 and long tables, which may be
+/// full, are left alone.
 fn fitted(mut case: Case, seed: u64, number: u64) -> Case {
     let r = &mut Random::of_case(seed ^ 0x6669_7473, number);
     if number % ROUND <= *LONG_CASES.end() {
@@ -70,6 +72,10 @@ fn fitted(mut case: Case, seed: u64, number: u64) -> Case {
     }
     if r.below(12) == 0 {
         joints::add(&mut case, r);
+    }
+    let r = &mut Random::of_case(seed ^ 0x6d6f_6e74, number);
+    if r.below(12) == 0 {
+        months::add(&mut case, r);
     }
     case
 }

@@ -2,7 +2,7 @@
 
 use super::case::Numbers;
 use super::counts::{CountCase, Range};
-use super::proof_table::{changed, tables, K};
+use super::proof_table::{changed, tables, with_months, K};
 use second::check::entry::*;
 use second::check::Table;
 
@@ -120,6 +120,11 @@ fn range([first, last, places]: [u32; 3]) -> Range {
 /// The proof table with all entries of `K`, each for 1, 2 and 3.
 pub fn k_1_to_3() -> CountCase {
     with(&K.map(|k| changed(k.1)), vec![range([1, 3, 3]); K.len()])
+}
+
+/// The same with another setting of months.
+pub fn k_1_to_3_with_months(setting: u32) -> CountCase {
+    CountCase { case: with_months(setting), ..k_1_to_3() }
 }
 
 /// The proof table with all of `RANGES`.

@@ -1,4 +1,5 @@
-//! Document 01's proof table, with K1 to K15 and the answers it gives, as document 02, P1, changes them.
+//! Document 01's proof table, with K1 to K15 and the answers it gives, as document 02, P1, changes them. By P3 they say
+//! months on.
 
 use super::case::{Case, Numbers};
 use second::check::entry::*;
@@ -30,7 +31,7 @@ pub fn tables() -> Case {
 
 pub fn k1() -> Numbers {
     let mut entry = [0; FIELDS];
-    for blank in [PRK, HPK, SEX, SURFACE, MONTHS] {
+    for blank in [PRK, HPK, SEX, SURFACE] {
         entry[blank] = BLANK;
     }
     entry[GPK] = 103_136;
@@ -43,6 +44,7 @@ pub fn k1() -> Numbers {
     entry[HIGHEST] = 2_000;
     entry[ENTERED_UNIT] = 233;
     entry[BASE_UNIT] = 233;
+    entry[MONTHS] = MONTHS_ON;
     entry
 }
 
@@ -89,6 +91,13 @@ pub fn changed(changes: &[(usize, u32)]) -> Numbers {
 /// The proof table with all K cases as its entries.
 pub fn k_case() -> Case {
     with(&K)
+}
+
+/// The same with another setting of months: no unit of it has a twin that a row has, so that the answers stay.
+pub fn with_months(setting: u32) -> Case {
+    let mut case = k_case();
+    case.entries.iter_mut().for_each(|entry| entry[MONTHS] = setting);
+    case
 }
 
 pub fn with(ks: &[K]) -> Case {

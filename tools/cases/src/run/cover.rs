@@ -1,9 +1,11 @@
 //! How often each test gave its answer, and each step went each of its ways.
 
 use super::answers_of;
+use super::exchange::{self, exchange, Exchange};
 use super::lies::{lies, Lies};
 use crate::generate::case::{Case, Numbers};
 use crate::generate::joints::Bounded;
+use crate::generate::months::Setting;
 use crate::generate::order::{keys, Order};
 use second::check::entry::{BASE_UNIT, CODE, ENTERED_UNIT, GPK, HIGHEST, ICPCTO, LOWEST, MAY_BE_BLANK, RANGES};
 use second::check::fields::LOW_BOUNDS;
@@ -15,6 +17,9 @@ use std::collections::BTreeMap;
 const BASIS: usize = 3;
 const CATEGORY: usize = 4;
 const RULE: usize = 5;
+
+/// What months not given means.
+const MONTHS_NOT_GIVEN: Setting = Setting::Off;
 
 /// A limit of 649.
 #[derive(Clone, Copy, PartialEq, Eq, PartialOrd, Ord, Debug)]
@@ -69,6 +74,8 @@ pub enum Seen {
     Dose(Limit, Near),
     /// A datum to the bounds of a row that a filter looked at.
     Lies(Bounded, Lies),
+    /// Rows of the unit beside the entered one, by the setting of months.
+    Exchange(Exchange),
     /// A table that was searched, of three rows or more, in which a key has several.
     Order(Table, Order),
     /// A key looked for in a table of three rows or more.
@@ -89,7 +96,9 @@ impl Coverage {
         for (answer, entry) in answers_of(case).iter().zip(&case.entries) {
             self.entries += 1;
             let lies = lies(case, answer, entry).into_iter().map(|(of, lies)| Seen::Lies(of, lies));
-            for seen in seen(answer, entry).into_iter().chain(searches(answer, entry, &orders)).chain(lies) {
+            let exchange = Setting::of(entry).and_then(|setting| exchange(case, answer, entry, setting));
+            let more = searches(answer, entry, &orders).into_iter().chain(lies).chain(exchange.map(Seen::Exchange));
+            for seen in seen(answer, entry).into_iter().chain(more) {
                 *self.counts.entry(seen).or_default() += 1;
             }
         }
@@ -228,6 +237,7 @@ pub fn required() -> Vec<Seen> {
     for of in Bounded::ALL {
         all.extend(Lies::ALL.into_iter().filter(|lies| lies.can_occur(of)).map(|lies| Seen::Lies(of, lies)));
     }
+    all.extend(exchange::required(MONTHS_NOT_GIVEN).into_iter().map(Seen::Exchange));
     for table in Table::ALL {
         all.extend(Order::ALL.map(|order| Seen::Order(table, order)));
         for falls in [Falls::Never, Falls::Once, Falls::Often] {

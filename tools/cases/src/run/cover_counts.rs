@@ -2,11 +2,13 @@
 
 use super::answers_of;
 use super::cover::tests;
+use super::exchange::{self, exchange, Came, Exchange};
 use crate::generate::case::{Case, Numbers};
-use crate::generate::counts::{CountCase, Range};
+use crate::generate::counts::{at_count, CountCase, Range};
+use crate::generate::months::{Setting, MONTH_TWINS};
 use second::check::counts::{COUNTS_MOST, NO_RANGE, TOO_SHORT};
 use second::check::entry::{COUNT, COUNT_MOST};
-use second::check::Test;
+use second::check::{Answer, Test};
 use second::stream::counts::PLACES_MOST;
 use std::collections::BTreeMap;
 
@@ -73,7 +75,14 @@ pub enum Seen {
     Compared(Own),
     /// At a place.
     Test(Test),
+    /// Rows of the unit beside the entered one, at a place, by the setting of months.
+    Exchange(Exchange),
+    /// Months not given, and a twin that needs them on at the first place, between others, at the last.
+    MonthTwin(Own),
 }
+
+/// What months not given means in a range (P3).
+const MONTHS_NOT_GIVEN: Setting = Setting::On;
 
 #[derive(Default)]
 pub struct Coverage {
@@ -138,12 +147,7 @@ fn many(counts: u64) -> Many {
 
 /// The entries with these counts, over the tables of the case.
 fn with_counts(case: &Case, entry: &Numbers, counts: impl Iterator<Item = u32>) -> Case {
-    let with_count = |count: u32| {
-        let mut entry = *entry;
-        entry[COUNT] = count;
-        entry
-    };
-    Case { tables: case.tables.clone(), entries: counts.map(with_count).collect() }
+    Case { tables: case.tables.clone(), entries: counts.map(|count| at_count(*entry, count)).collect() }
 }
 
 /// What the check would give for a count that is in range, where it belongs to step 1.
@@ -159,7 +163,8 @@ fn refused(number: u32, seen: Seen, case: &Case, entry: &Numbers, range: &Range)
 
 fn answered(case: &Case, entry: &Numbers, range: &Range) -> Vec<Seen> {
     let Range { first, last, places } = *range;
-    let answers = answers_of(&with_counts(case, entry, first..=last));
+    let single = with_counts(case, entry, first..=last);
+    let answers = answers_of(&single);
     let mut all: Vec<Seen> = vec![Seen::Counts(range.counts()), Seen::Own(own(entry[COUNT], range))];
     all.push(Seen::Room(match places as u64 - range.counts() {
         0 => Room::Exact,
@@ -178,6 +183,19 @@ fn answered(case: &Case, entry: &Numbers, range: &Range) -> Vec<Seen> {
     all.push(Seen::Different(different.len().min(4)));
     let compared = answers.iter().zip(first..).filter(|(answer, _)| answer.numbers[0] == 100 && different.len() > 1);
     all.extend(compared.map(|(_, count)| Seen::Compared(own(count, range))));
+    all.extend(Setting::of(entry).into_iter().flat_map(|setting| exchanges(&single, &answers, setting, range)));
+    all
+}
+
+/// At the places of a range whose entry has this setting.
+fn exchanges(single: &Case, answers: &[Answer], setting: Setting, range: &Range) -> Vec<Seen> {
+    let mut all = vec![];
+    for (answer, entry) in answers.iter().zip(&single.entries) {
+        let Some(seen) = exchange(single, answer, entry, setting) else { continue };
+        all.push(Seen::Exchange(seen));
+        let by_months = setting == Setting::NotGiven && MONTH_TWINS.contains(&seen.unit) && seen.came == Came::Twin;
+        all.extend((by_months && range.counts() > 1).then_some(Seen::MonthTwin(own(entry[COUNT], range))));
+    }
     all
 }
 
@@ -210,5 +228,7 @@ pub fn required() -> Vec<Seen> {
     all.extend([1, 2, 3, 4].map(Seen::Different));
     all.extend([Own::First, Own::Among, Own::Last].map(Seen::Compared));
     all.extend(tests().into_iter().map(Seen::Test));
+    all.extend(exchange::required(MONTHS_NOT_GIVEN).into_iter().map(Seen::Exchange));
+    all.extend([Own::First, Own::Among, Own::Last].map(Seen::MonthTwin));
     all
 }

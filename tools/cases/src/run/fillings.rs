@@ -3,7 +3,7 @@
 use super::smallest::Piece;
 use crate::generate;
 use crate::generate::case::{Case, Numbers};
-use crate::generate::counts::{CountCase, Range};
+use crate::generate::counts::{at_count, CountCase, Range};
 use crate::random::Random;
 use second::check::entry::*;
 
@@ -29,10 +29,15 @@ pub struct Filling<P> {
 
 /// A piece whose lines are judged by demand 3.
 pub trait Fillable: Piece {
+    /// What months not given means: given, it must change nothing.
+    const MONTHS_NOT_GIVEN: u32;
+
     fn of_filled(number: u64, seed: u64, cases: [Case; 2], filled: Vec<Option<Filled>>) -> Filling<Self>;
 }
 
 impl Fillable for Case {
+    const MONTHS_NOT_GIVEN: u32 = MONTHS_OFF;
+
     /// A line for each entry.
     fn of_filled(number: u64, _: u64, sent: [Case; 2], filled: Vec<Option<Filled>>) -> Filling<Case> {
         Filling { number, case: sent[0].clone(), sent, filled }
@@ -40,6 +45,8 @@ impl Fillable for Case {
 }
 
 impl Fillable for CountCase {
+    const MONTHS_NOT_GIVEN: u32 = MONTHS_ON;
+
     /// A line for each count of each entry; an entry and what is made of it have the same range.
     fn of_filled(number: u64, seed: u64, cases: [Case; 2], filled: Vec<Option<Filled>>) -> Filling<CountCase> {
         let r = &mut Random::of_case(!seed ^ 0x7261_6e67, number);
@@ -51,9 +58,7 @@ impl Fillable for CountCase {
             starts.push(asked.entries.len());
             ranges.push(range);
             for (place, count) in (range.first..=range.last).enumerate() {
-                let mut line = *entry;
-                line[COUNT] = count;
-                asked.entries.push(line);
+                asked.entries.push(at_count(*entry, count));
                 filled_lines.push(filled.map(|Filled { of, datum }| Filled { of: starts[of] + place, datum }));
             }
         }
@@ -113,7 +118,7 @@ pub fn filling<P: Fillable>(seed: u64, number: u64) -> Filling<P> {
         }
         if entry[MONTHS] == BLANK {
             let mut given = entry;
-            given[MONTHS] = MONTHS_ON;
+            given[MONTHS] = P::MONTHS_NOT_GIVEN;
             case.entries.push(given);
             filled.push(Some(Filled { of, datum: MONTHS }));
         }

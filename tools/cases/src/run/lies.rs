@@ -83,15 +83,33 @@ fn to_rows(of: Bounded, rows: &[Row], value: u64) -> Vec<(Bounded, Lies)> {
     all.into_iter().map(|lies| (of, lies)).collect()
 }
 
+/// The rows of the category that a step looks at; none where none looks.
+fn of_category<'c>(case: &'c Case, answer: &Answer) -> Vec<Row<'c>> {
+    let category = answer.numbers[CATEGORY] as u64;
+    if category == 0 || answer.test == Test::CategoryTooLong {
+        return vec![];
+    }
+    let rows = &case.tables[Table::T643 as usize];
+    rows.cells.chunks_exact(rows.width()).filter(|row| row[0] == category).collect()
+}
+
+fn fit(of: Bounded, rows: &mut Vec<Row>, value: u64) {
+    rows.retain(|row| Lies::of(bounds(of, row).0, bounds(of, row).1, value).fits());
+}
+
+/// The rows of the category that fit the age: those that step 9 looks at.
+pub fn of_age<'c>(case: &'c Case, answer: &Answer, entry: &Numbers) -> Vec<Row<'c>> {
+    let mut rows = of_category(case, answer);
+    if let Some(value) = Bounded::Age.value(entry) {
+        fit(Bounded::Age, &mut rows, value);
+    }
+    rows
+}
+
 /// Of the age to the rows of the category; of weight and surface, where they matter, to the rows that are left and have
 /// the entered count and unit.
 pub fn lies(case: &Case, answer: &Answer, entry: &Numbers) -> Vec<(Bounded, Lies)> {
-    let (category, mut all) = (answer.numbers[CATEGORY] as u64, vec![]);
-    let rows = &case.tables[Table::T643 as usize];
-    let mut left: Vec<Row> = rows.cells.chunks_exact(rows.width()).filter(|row| row[0] == category).collect();
-    if category == 0 || answer.test == Test::CategoryTooLong {
-        return all;
-    }
+    let (mut left, mut all) = (of_category(case, answer), vec![]);
     for of in Bounded::ALL {
         let looked_at = match of {
             Bounded::Age => true,
@@ -100,7 +118,7 @@ pub fn lies(case: &Case, answer: &Answer, entry: &Numbers) -> Vec<(Bounded, Lies
         };
         let Some(value) = of.value(entry).filter(|_| looked_at) else { continue };
         all.extend(to_rows(of, &left, value));
-        left.retain(|row| Lies::of(bounds(of, row).0, bounds(of, row).1, value).fits());
+        fit(of, &mut left, value);
         left.retain(|row| (row[3], row[4]) == (entry[COUNT] as u64, entry[TIME_UNIT] as u64));
     }
     all

@@ -9,6 +9,7 @@ pub mod demand3;
 pub mod difference;
 pub mod edges;
 pub mod edges_counts;
+pub mod exchange;
 pub mod fillings;
 pub mod lies;
 pub mod program;

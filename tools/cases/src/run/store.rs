@@ -7,8 +7,9 @@ use crate::generate::calls::{call_case, stream as stream_of, CallCase};
 use crate::generate::case::Case;
 use crate::generate::joints::{self, Bounded};
 use crate::generate::order::Order;
-use crate::generate::{self, chains, full, proof_table, FULL_640, TOO_LONG_640};
+use crate::generate::{self, chains, full, months, proof_table, FULL_640, TOO_LONG_640};
 use crate::random::Random;
+use second::check::entry::{BLANK, MONTHS, MONTHS_OFF};
 use second::check::Table;
 use second::record::calls::{calls as call_lines, Call, BYTES_MOST};
 use second::record::list::unit_list;
@@ -24,16 +25,27 @@ const LENGTHS: u64 = 6;
 /// telling a wrong version that none before told.
 const CHOSEN_CASES: &str = include_str!("../../stored/cases");
 const CHOSEN_CALLS: &str = include_str!("../../stored/calls");
+/// Numbers of the stored ones in which an entry gave no setting of months and gets another answer for it by P3.
+const CHOSEN_MONTHS: &str = include_str!("../../stored/months");
 /// The rest is filled up with cases no longer than this, since all of them stand in the repository.
 const FILLING_BYTES: usize = 1_000;
 const UNIT_FILES: u64 = 400;
 
+/// Those of P3 behind those before it, which keep their answers.
+pub fn cases() -> Vec<Case> {
+    let mut cases = cases_before_p3();
+    cases.extend(p3_cases());
+    cases
+}
+
 /// K1 to K15 first; a table that is full and one that is too long; the chosen cases; others.
 /// Behind them the cases that look for keys, and those of P1, added later: those before stay as they were.
-pub fn cases() -> Vec<Case> {
+/// They relied on months not given being on, and say on.
+pub fn cases_before_p3() -> Vec<Case> {
     let mut cases = first_cases();
     cases.extend(key_cases());
     cases.extend(p1_cases());
+    cases.iter_mut().for_each(|case| months::say_on(&mut case.entries));
     cases
 }
 
@@ -82,6 +94,22 @@ pub fn p1_cases() -> Vec<Case> {
     joints::raise(&mut raised);
     cases.push(raised);
     cases
+}
+
+/// The proof table with months off and not given; each time unit that has one beside it, with each setting; and those
+/// of the older cases that get another answer where months are not given, as they were.
+pub fn p3_cases() -> Vec<Case> {
+    let mut cases = [MONTHS_OFF, BLANK].map(proof_table::with_months).to_vec();
+    cases.extend(months::UNITS.map(months::each));
+    cases.extend(numbers(CHOSEN_MONTHS).into_iter().map(without_months));
+    cases
+}
+
+/// With the entries that give no setting of months.
+fn without_months(number: u64) -> Case {
+    let mut case = generate::light_made(SEED, number);
+    case.entries.retain(|entry| entry[MONTHS] == BLANK);
+    case
 }
 
 pub(super) fn write(dir: &Path, stdin: &[u8], stdout: &[u8]) -> io::Result<()> {

@@ -3,22 +3,30 @@
 use super::smallest::Piece;
 use super::store::{numbers, write, SEED};
 use crate::generate::counts::{made_count_case, CountCase, Range};
-use crate::generate::{full, proof_ranges};
+use crate::generate::{full, months, proof_ranges};
 use crate::random::Random;
+use second::check::entry::{BLANK, MONTHS_OFF};
 use second::stream::counts::PLACES_MOST;
 use second::stream::BROKEN;
 use std::{io, path::Path};
 
 /// Numbers of cases that showed something new of SEED's first 12,000 in the coverage, the short ones first.
 const CHOSEN: &str = include_str!("../../stored/counts");
-/// So many cases of ranges are stored, and a broken one.
+/// So many cases of ranges are stored before those of P3.
 pub const CASES: usize = 230;
 /// The rest is filled up with cases of so many ranges or more, no longer than this.
 const FILLING_RANGES: usize = 5;
 const FILLING_BYTES: usize = 2_000;
 
-/// The proof table's ranges first; then tables that are refused and full categories; the chosen cases; others.
+/// Those of P3 behind those before it, which keep their answers: a range says on where its entry gives no setting.
 pub fn cases() -> Vec<CountCase> {
+    let mut cases = cases_before_p3();
+    cases.extend(p3_cases());
+    cases
+}
+
+/// The proof table's ranges first; then tables that are refused and full categories; the chosen cases; others.
+fn cases_before_p3() -> Vec<CountCase> {
     let mut cases = vec![proof_ranges::k_1_to_3(), proof_ranges::ranges()];
     cases.extend([121, 122].map(proof_ranges::over_bad_tables));
     cases.extend((0..3).map(full_category));
@@ -29,6 +37,14 @@ pub fn cases() -> Vec<CountCase> {
     let room = CASES - cases.len();
     let filling = |case: &CountCase| case.ranges.len() >= FILLING_RANGES && case.bytes().len() <= FILLING_BYTES;
     cases.extend(others.filter(filling).take(room));
+    cases
+}
+
+/// The proof table for 1, 2 and 3 with months off and not given; each time unit that has one beside it, with each
+/// setting.
+pub fn p3_cases() -> Vec<CountCase> {
+    let mut cases = [MONTHS_OFF, BLANK].map(proof_ranges::k_1_to_3_with_months).to_vec();
+    cases.extend(months::UNITS.map(months::ranges));
     cases
 }
 

@@ -121,10 +121,15 @@ pub fn ranges(file: &str) -> String {
     fs::read_to_string(Path::new(SAMPLE).join("ranges").join(file)).unwrap()
 }
 
+/// A file of the sample with months.
+pub fn months(file: &str) -> String {
+    fs::read_to_string(Path::new(SAMPLE).join("months").join(file)).unwrap()
+}
+
 /// The header of the entries, then K1 under each of these names with this count.
 pub fn k1_with(counts: &[(&str, &str)]) -> String {
     let entry = |(name, count): &(&str, &str)| {
-        format!("{name},103136,,,240,,75000,,3,0,0,0,{count},19,2000,2000,233,233,0,0,\n")
+        format!("{name},103136,,,240,,75000,,3,0,0,0,{count},19,2000,2000,233,233,0,0,on\n")
     };
     let header = sample(ENTRIES).lines().next().unwrap().to_string();
     format!("{header}\n{}", counts.iter().map(entry).collect::<String>())
@@ -135,4 +140,13 @@ pub fn paper_lines() -> String {
     let expected = sample("expected.csv");
     let numbers = |line: &str| line.split_once(',').unwrap().1.replace(',', " ") + "\n";
     expected.lines().skip(1).map(numbers).collect()
+}
+
+/// A line of an expected.csv that has counts, as the program writes it.
+pub fn program_line(line: &str) -> String {
+    let numbers = line.splitn(3, ',').nth(2).unwrap();
+    if numbers.starts_with("131,") {
+        return "131\n".to_string();
+    }
+    numbers.replace(',', " ") + "\n"
 }

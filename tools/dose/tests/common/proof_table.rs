@@ -1,6 +1,7 @@
 //! Document 01's proof table and K1, typed again as the numbers of a stream.
 
 pub const BLANK: u32 = u32::MAX;
+pub const ON: u32 = 1;
 
 /// The six tables; 730 is empty.
 pub const PROOF_TABLE: [&[u32]; 6] = [
@@ -18,7 +19,7 @@ pub const PROOF_TABLE: [&[u32]; 6] = [
     &[],
 ];
 
-/// The places of an entry that the K cases change.
+/// The places of an entry that the tests change.
 pub const GPK: usize = 0;
 pub const AGE: usize = 3;
 pub const SEX: usize = 4;
@@ -29,9 +30,11 @@ pub const COUNT: usize = 11;
 pub const TIME: usize = 12;
 pub const LOWEST: usize = 13;
 pub const HIGHEST: usize = 14;
+pub const MONTHS: usize = 19;
 
+/// With months on, as P3 has all cases of the proof table.
 pub const K1: [u32; 20] =
-    [103136, BLANK, BLANK, 240, BLANK, 75000, BLANK, 3, 0, 0, 0, 2, 19, 2000, 2000, 233, 233, 0, 0, BLANK];
+    [103136, BLANK, BLANK, 240, BLANK, 75000, BLANK, 3, 0, 0, 0, 2, 19, 2000, 2000, 233, 233, 0, 0, ON];
 
 /// K1 with these numbers changed.
 pub fn k1_but(changes: &[(usize, u32)]) -> Vec<u32> {

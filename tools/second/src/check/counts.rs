@@ -1,6 +1,6 @@
 //! Document 02, P2: a range of counts, "1 to 3 times a day", each count checked by itself (001, 3.4.1).
 
-use super::entry::COUNT;
+use super::entry::{COUNT, MONTHS, MONTHS_ON};
 use super::{check, Entry, Lent};
 
 /// A range of more counts is refused.
@@ -18,6 +18,7 @@ pub fn check_counts(lent: &Lent, entry: &Entry, first: u32, last: u32, list: &mu
     if list.len() / PLACE < counts {
         return Err(TOO_SHORT);
     }
+    let entry = &with_months(entry);
     for (place, count) in list.chunks_exact_mut(PLACE).zip(first..=last) {
         place.copy_from_slice(&check(lent, &with_count(entry, count)).numbers);
     }
@@ -31,6 +32,15 @@ fn counts(first: u32, last: u32) -> Option<usize> {
     }
     let counts = last as u64 - first as u64 + 1;
     (counts <= COUNTS_MOST).then_some(counts as usize)
+}
+
+/// P3: a range says on where its entry gives no setting.
+fn with_months(entry: &Entry) -> Entry {
+    let mut numbers = entry.numbers;
+    if entry.months.is_none() {
+        numbers[MONTHS] = MONTHS_ON;
+    }
+    Entry::new(numbers)
 }
 
 /// The entry's own count is not looked at.

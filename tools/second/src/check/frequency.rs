@@ -1,7 +1,7 @@
 //! Step 9: the frequency, count and time unit.
 
 use super::category::Rows;
-use super::entry::{Entry, MONTHS_ON};
+use super::entry::{Entry, MONTHS_OFF, MONTHS_ON};
 use super::tables::Row643;
 use super::test::Test;
 use super::ways::{Time, Ways};
@@ -40,9 +40,9 @@ fn signal(rows: &[&Row643], entry: &Entry, twin: Option<u32>) -> Test {
     }
 }
 
-/// Months not given means on.
+/// Document 02, P3: months not given means off.
 fn twin(entry: &Entry) -> Option<u32> {
-    let months = entry.months.unwrap_or(MONTHS_ON) == MONTHS_ON;
+    let months = entry.months.unwrap_or(MONTHS_OFF) == MONTHS_ON;
     let month_twins = if months { &MONTH_TWINS[..] } else { &[] };
     TWINS.iter().chain(month_twins).find_map(|(a, b)| match entry.time_unit {
         unit if unit == *a => Some(*b),
