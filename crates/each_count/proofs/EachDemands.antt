@@ -20,7 +20,7 @@ use Rattle.guideline.specs.Entries.{datum, permitted, with-count, with-months}
 use Rattle.guideline.specs.Check.{answer-length, numbers-of, outcome, place-of, check}
 use Rattle.guideline.specs.Counts.{on-unless-given, numbers-at}
 use Rattle.guideline.specs.ProofTable.{proof-table, bytes-printed}
-use Rattle.guideline.proofs.CountExamples.{ranges, ranges-of-months, all-hold, counts-of-K1-as-bytes, months-of-ranges-as-bytes}
+use Rattle.guideline.proofs.CountExamples.{ranges, ranges-of-months, all-hold, counts-of-K1-as-bytes, months-in-ranges-as-bytes}
 use Rattle.guideline.proofs.CountLaws.{place-answered, rest-behind}
 use Rattle.guideline.proofs.Months.{range-not-given-is-on}
 use Rattle.guideline.proofs.TwinTraps.{twin-tables}
@@ -101,4 +101,4 @@ reordering-each b c first last e old new old' new' n n' i p p' h h' k =
 
 -- Demand 2 is the promise itself; on K1 of document 01's proof table, and on the twins of weeks and months, it gives the ranges of the lists.
 pub demand-2-each : T (all-hold (spelled (bytes-printed proof-table)) ranges) × T (all-hold (spelled (bytes-printed twin-tables)) ranges-of-months)
-demand-2-each = (counts-of-K1-as-bytes, months-of-ranges-as-bytes)
+demand-2-each = (counts-of-K1-as-bytes, months-in-ranges-as-bytes)

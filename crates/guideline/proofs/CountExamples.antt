@@ -69,7 +69,7 @@ ranges =
     ∷ []
 
 -- P3. Per 36 and per 41 category 7 has twice, and once their twins 35 and 40 (TwinTraps): with the setting on, and where none is given, 1 to 2
--- times is checked against both; with off the first has no row. A setting other than on and off is 125 at each place
+-- times is checked against both; with off one of them has no row. A setting other than on and off is 125 at each place
 abbrev by-rule : ℕ → List ℕ
 by-rule rule = 100 ∷ 0 ∷ 0 ∷ 5 ∷ 7 ∷ rule ∷ 0 ∷ 0 ∷ []
 
@@ -117,10 +117,10 @@ pub counts-of-K1-as-bytes : T (all-hold (spelled (bytes-printed proof-table)) ra
 unfolding opened in-turn counted list-after ranges
 counts-of-K1-as-bytes = tt
 
-pub months-of-ranges : T (all-hold (rows-printed twin-tables) ranges-of-months)
+pub months-in-ranges : T (all-hold (rows-printed twin-tables) ranges-of-months)
 unfolding opened in-turn counted list-after twin-tables ranges-of-months
-months-of-ranges = tt
+months-in-ranges = tt
 
-pub months-of-ranges-as-bytes : T (all-hold (spelled (bytes-printed twin-tables)) ranges-of-months)
+pub months-in-ranges-as-bytes : T (all-hold (spelled (bytes-printed twin-tables)) ranges-of-months)
 unfolding opened in-turn counted list-after twin-tables ranges-of-months
-months-of-ranges-as-bytes = tt
+months-in-ranges-as-bytes = tt

@@ -1,5 +1,5 @@
-//! Document 02, P3, by hand: what each setting of months gets, in the single check and in a range. And what was stored
-//! before says on.
+//! Document 02, P3, by hand: what each months setting gets, in the single check and in a range. And what was stored
+//! before gives a setting.
 
 use cases::generate;
 use cases::generate::case::Case;

@@ -8,6 +8,8 @@ use common::{k1_with, months, program_line, Room, ENTRIES, TABLES};
 const OFF: u32 = 0;
 /// As many as a range may have counts (P2).
 const PLACES: u32 = 16;
+/// Behind the lengths of the six tables stands the number of entries.
+const ENTRIES_AT: usize = 24;
 const COMPARED: &str = "100 0 0 1500 33784 1 0 0\n";
 
 #[test]
@@ -94,8 +96,13 @@ fn each_program_hears_its_entries() {
     assert_eq!(room.check(&[]).status, 0);
     let with_range =
         |(numbers, last): ([u32; 5], u32)| [entry(numbers), vec![numbers[1], last, PLACES]].concat();
-    assert!(room.heard().unwrap().ends_with(&bytes(&PLAIN.map(entry))));
-    assert!(room.counts_heard().unwrap().ends_with(&bytes(&RANGED.map(with_range))));
+    for (heard, entries) in [
+        (room.heard().unwrap(), PLAIN.map(entry).to_vec()),
+        (room.counts_heard().unwrap(), RANGED.map(with_range).to_vec()),
+    ] {
+        assert_eq!(heard[ENTRIES_AT..ENTRIES_AT + 4], (entries.len() as u32).to_le_bytes());
+        assert!(heard.ends_with(&bytes(&entries)));
+    }
 }
 
 #[test]

@@ -62,9 +62,14 @@ impl CountCase {
 
 /// What the single check is asked for a count of an entry's range: by P3 with months on, where the entry gives no
 /// setting.
-pub fn at_count(mut entry: Numbers, count: u32) -> Numbers {
-    entry[COUNT] = count;
+pub fn at_count(entry: Numbers, count: u32) -> Numbers {
+    let mut entry = with_count(entry, count);
     months::say_on(std::slice::from_mut(&mut entry));
+    entry
+}
+
+pub fn with_count(mut entry: Numbers, count: u32) -> Numbers {
+    entry[COUNT] = count;
     entry
 }
 

@@ -122,7 +122,7 @@ pub fn k_1_to_3() -> CountCase {
     with(&K.map(|k| changed(k.1)), vec![range([1, 3, 3]); K.len()])
 }
 
-/// The same with another setting of months.
+/// The same with another months setting.
 pub fn k_1_to_3_with_months(setting: u32) -> CountCase {
     CountCase { case: with_months(setting), ..k_1_to_3() }
 }

@@ -93,7 +93,7 @@ pub fn k_case() -> Case {
     with(&K)
 }
 
-/// The same with another setting of months: no unit of it has a twin that a row has, so that the answers stay.
+/// The same with another months setting: no unit of it has a twin that a row has, so that the answers stay.
 pub fn with_months(setting: u32) -> Case {
     let mut case = k_case();
     case.entries.iter_mut().for_each(|entry| entry[MONTHS] = setting);

@@ -74,7 +74,7 @@ pub enum Seen {
     Dose(Limit, Near),
     /// A datum to the bounds of a row that a filter looked at.
     Lies(Bounded, Lies),
-    /// Rows of the unit beside the entered one, by the setting of months.
+    /// Rows of the unit beside the entered one, by the months setting.
     Exchange(Exchange),
     /// A table that was searched, of three rows or more, in which a key has several.
     Order(Table, Order),

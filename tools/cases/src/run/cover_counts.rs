@@ -75,7 +75,7 @@ pub enum Seen {
     Compared(Own),
     /// At a place.
     Test(Test),
-    /// Rows of the unit beside the entered one, at a place, by the setting of months.
+    /// Rows of the unit beside the entered one, at a place, by the months setting.
     Exchange(Exchange),
     /// Months not given, and a twin that needs them on at the first place, between others, at the last.
     MonthTwin(Own),

@@ -158,7 +158,7 @@ fn judge_filled(asked: &str, line: &str, datum: usize, later: bool, judged: &mut
 
 fn told<P>(filling: &Filling<P>, lines: &[String], what: &str, place: usize, of: usize) -> String {
     let tables = show::tables(&filling.case);
-    let entry = |place: usize| show::entry(&filling.case.entries[place]);
+    let entry = |place: usize| show::entry(&filling.sent_entries[place]);
     format!(
         "case {}: {what}\n{tables}entry:  {}\nanswer: {}\nfilled: {}\nanswer: {}",
         filling.number,

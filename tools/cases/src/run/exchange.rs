@@ -1,4 +1,4 @@
-//! Document 02, P3: what step 9 makes of rows of the time unit beside the entered one, for each setting of months.
+//! Document 02, P3: what step 9 makes of rows of the time unit beside the entered one, for each months setting.
 
 use super::lies::of_age;
 use crate::generate::case::{Case, Numbers};

@@ -3,7 +3,7 @@
 use super::smallest::Piece;
 use crate::generate;
 use crate::generate::case::{Case, Numbers};
-use crate::generate::counts::{at_count, CountCase, Range};
+use crate::generate::counts::{at_count, with_count, CountCase, Range};
 use crate::random::Random;
 use second::check::entry::*;
 
@@ -22,8 +22,10 @@ pub struct Filling<P> {
     pub number: u64,
     /// What the program is sent: the case, then the case with its rows in another order.
     pub sent: [P; 2],
-    /// The tables, and the entry that each line answers.
+    /// The tables, and the entry that each line answers, as the single check is asked for it.
     pub case: Case,
+    /// The same entries, their months as they are sent.
+    pub sent_entries: Vec<Numbers>,
     pub filled: Vec<Option<Filled>>,
 }
 
@@ -40,7 +42,7 @@ impl Fillable for Case {
 
     /// A line for each entry.
     fn of_filled(number: u64, _: u64, sent: [Case; 2], filled: Vec<Option<Filled>>) -> Filling<Case> {
-        Filling { number, case: sent[0].clone(), sent, filled }
+        Filling { number, case: sent[0].clone(), sent_entries: sent[0].entries.clone(), sent, filled }
     }
 }
 
@@ -52,18 +54,19 @@ impl Fillable for CountCase {
         let r = &mut Random::of_case(!seed ^ 0x7261_6e67, number);
         let (mut ranges, mut starts): (Vec<Range>, Vec<usize>) = (vec![], vec![]);
         let mut asked = Case { tables: cases[0].tables.clone(), entries: vec![] };
-        let mut filled_lines = vec![];
+        let (mut sent_entries, mut filled_lines) = (vec![], vec![]);
         for (entry, filled) in cases[0].entries.iter().zip(filled) {
             let range = filled.map_or_else(|| answered(r, entry[COUNT]), |filled| ranges[filled.of]);
             starts.push(asked.entries.len());
             ranges.push(range);
             for (place, count) in (range.first..=range.last).enumerate() {
                 asked.entries.push(at_count(*entry, count));
+                sent_entries.push(with_count(*entry, count));
                 filled_lines.push(filled.map(|Filled { of, datum }| Filled { of: starts[of] + place, datum }));
             }
         }
         let sent = cases.map(|case| CountCase { case, ranges: ranges.clone() });
-        Filling { number, sent, case: asked, filled: filled_lines }
+        Filling { number, sent, case: asked, sent_entries, filled: filled_lines }
     }
 }
 

@@ -25,7 +25,7 @@ const LENGTHS: u64 = 6;
 /// telling a wrong version that none before told.
 const CHOSEN_CASES: &str = include_str!("../../stored/cases");
 const CHOSEN_CALLS: &str = include_str!("../../stored/calls");
-/// Numbers of the stored ones in which an entry gave no setting of months and gets another answer for it by P3.
+/// Numbers of the stored ones in which an entry gave no months setting and gets another answer for it by P3.
 const CHOSEN_MONTHS: &str = include_str!("../../stored/months");
 /// The rest is filled up with cases no longer than this, since all of them stand in the repository.
 const FILLING_BYTES: usize = 1_000;
@@ -39,8 +39,8 @@ pub fn cases() -> Vec<Case> {
 }
 
 /// K1 to K15 first; a table that is full and one that is too long; the chosen cases; others.
-/// Behind them the cases that look for keys, and those of P1, added later: those before stay as they were.
-/// They relied on months not given being on, and say on.
+/// Behind them the cases that look for keys, and those of P1, added later: those before stay as they were, but that
+/// they relied on months not given being on, and say on (P3).
 pub fn cases_before_p3() -> Vec<Case> {
     let mut cases = first_cases();
     cases.extend(key_cases());
@@ -67,8 +67,8 @@ pub(super) fn numbers(list: &str) -> Vec<u64> {
 
 /// Tables that rise and tables that fall, keys at each place of them, and full categories.
 pub fn key_cases() -> Vec<Case> {
-    // Begins as the half header does that the stream ended with, so that all of the older stream is the front of this
-    // one.
+    // Begins as the half header does that the stream ended with, so that all of the older stream, but for its months,
+    // is the front of this one.
     let mut cases = vec![chains::empty()];
     cases.extend((1..=LENGTHS).map(chains::length));
     for table in Table::ALL {
@@ -105,7 +105,7 @@ pub fn p3_cases() -> Vec<Case> {
     cases
 }
 
-/// With the entries that give no setting of months.
+/// With the entries that give no months setting.
 fn without_months(number: u64) -> Case {
     let mut case = generate::light_made(SEED, number);
     case.entries.retain(|entry| entry[MONTHS] == BLANK);

@@ -69,7 +69,7 @@ pub fn settings(r: &mut Random) -> Case {
     case
 }
 
-/// An entered time unit against rows of one or two units, with each setting of months.
+/// An entered time unit against rows of one or two units, with each months setting.
 pub fn twins(place: usize, r: &mut Random) -> Case {
     let mut case = model(r);
     let entered = TIME_UNITS[place] as u32;

@@ -1,4 +1,4 @@
-//! On top of a case: a few rows of a time unit and of the one beside it, and entries with each setting of months.
+//! On top of a case: a few rows of a time unit and of the one beside it, and entries with each months setting.
 
 use super::Of::{Beside, Day, Entered};
 use super::*;

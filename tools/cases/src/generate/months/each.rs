@@ -1,4 +1,4 @@
-//! For each time unit that has one beside it: what step 9 may find of the two, asked with each setting of months.
+//! For each time unit that has one beside it: what step 9 may find of the two, asked with each months setting.
 
 use super::Of::{Beside, Day, Entered};
 use super::*;
@@ -31,11 +31,13 @@ const OF_AGE: &[Row] = &[
 const CATEGORIES: [&[Row]; 9] =
     [ALONE, OTHER_COUNT, BOTH, ON_ANOTHER_ROW, OF_WEIGHT, OF_SURFACE, SEVERAL, BAD_RULES, OF_AGE];
 
+type Changes = &'static [(usize, u32)];
+
 /// An entry over one of the categories.
 pub struct Asked {
     pub name: &'static str,
     category: usize,
-    changes: &'static [(usize, u32)],
+    changes: Changes,
     /// What it is checked for.
     pub counts: &'static [u32],
 }
@@ -50,8 +52,6 @@ impl Asked {
         entry(self.key(), unit, count, months, self.changes)
     }
 }
-
-type Changes = &'static [(usize, u32)];
 
 const fn ask(name: &'static str, category: usize, changes: Changes, counts: &'static [u32]) -> Asked {
     Asked { name, category, changes, counts }

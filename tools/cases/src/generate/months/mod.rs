@@ -1,4 +1,4 @@
-//! Document 02, P3: settings of months, and rows of the time unit beside the entered one.
+//! Document 02, P3: months settings, and rows of the time unit beside the entered one.
 
 mod add;
 mod each;
@@ -26,7 +26,7 @@ pub fn beside(unit: u32) -> Option<u32> {
     Some(UNITS[place ^ 1])
 }
 
-/// A setting of months that is in range.
+/// A months setting that is in range.
 #[derive(Clone, Copy, PartialEq, Eq, PartialOrd, Ord, Debug)]
 pub enum Setting {
     On,
