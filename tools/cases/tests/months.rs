@@ -149,7 +149,7 @@ fn numbers(case: &Case) -> Vec<[u32; 8]> {
     answers_of(case).iter().map(|answer| answer.numbers).collect()
 }
 
-/// They say on or off, so that their answers are those they had; those that rest on it are stored as they were too.
+/// So that their answers are those they had. Those whose answer rests on not given are stored as they were too.
 #[test]
 fn what_was_stored_before_gives_a_setting() {
     let before = store::cases_before_p3();
