@@ -12,7 +12,7 @@ use Rattle.stream.specs.Lines.{line}
 use Rattle.stream.proofs.InLine.{line-of-these}
 
 module _ (list : List ℕ) (i : ℕ) where
-  -- the numbers from i * 8 on, eight of them
+  -- the numbers from i * 9 on, nine of them
   part-placed : (from long : ℕ) → from ≡ i * answer-length → long ≡ answer-length → take long (drop from list) ≡ numbers-at i list
   part-placed from long f l = rw (f, l) refl
 

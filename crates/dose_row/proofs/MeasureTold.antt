@@ -5,7 +5,7 @@ use Prim.Native.Nat.{ℕ}
 use Rattle.guideline.specs.declared.entries.Value.{Value}
 use Rattle.guideline.specs.declared.view.View.{View}
 use Rattle.filter.specs.declared.Measure.{Measure}
-use Rattle.dose_row.specs.declared.settled.Settled.{Settled}
+use Rattle.sieve.specs.declared.settled.Settled.{Settled}
 use Rattle.dose_row.specs.declared.by_measure.Measured.{Measured}
 use Rattle.dose_row.specs.Measured.{Leaves}
 

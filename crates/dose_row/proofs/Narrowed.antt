@@ -1,30 +1,35 @@
 -- The steps that filter, told by whether there is a row that passes. Assumes nothing.
 use Prim.Native.Nat.{ℕ, zero, suc}
-use mathlib.Core.Path.{_≡_, refl, _∙_, ap}
+use mathlib.Core.Path.{_≡_, refl, sym, _∙_, ap}
 use mathlib.Core.Bool.{Bool, true, false, cond}
 use Rattle.guideline.specs.declared.bounds.Bounds.{Bounds}
+use Rattle.guideline.specs.declared.context.Context.{Context}
 use Rattle.guideline.specs.declared.entries.Datum.{Datum}
 use Rattle.guideline.specs.declared.entries.Prescription.{Prescription}
 use Rattle.guideline.specs.declared.entries.Value.{Value}
 use Rattle.guideline.specs.declared.entries.Value.the-variants.{Blank, Given}
 use Rattle.guideline.specs.declared.refusals.Ending.{Ending}
-use Rattle.guideline.specs.declared.refusals.Ending.the-variants.{NoFrequency, RowsSeveral}
+use Rattle.guideline.specs.declared.refusals.Ending.the-variants.{Suppressed, NoFrequency, RowsSeveral}
 use Rattle.guideline.specs.declared.refusals.Question.{Question}
+use Rattle.guideline.specs.declared.refusals.Refusal.{Refusal}
 use Rattle.guideline.specs.declared.refusals.Refusal.the-variants.{Asks, Ends}
-use Rattle.guideline.specs.declared.refusals.Signal.{Signal}
 use Rattle.guideline.specs.declared.rows.Row643.{Row643}
+use Rattle.guideline.specs.declared.rows.Row649.{Row649}
 use Rattle.guideline.specs.Values.{fits, matters}
 use Rattle.guideline.specs.Ask.{asks-for, Chosen, Refused, Done, run, _>>=_}
 use Rattle.guideline.specs.Table.{Table, some, among, every}
-use Rattle.guideline.specs.Steps.{signal, when, refuse, ask, choose, one, narrow, no-frequency, by-frequency, by-measure, one-row}
+use Rattle.guideline.specs.Forms.{when, refuse, ask, choose, one, narrow}
+use Rattle.guideline.specs.Quiet.{suppresses}
+use Rattle.guideline.specs.Steps.{signal, no-frequency, by-frequency, by-measure, one-row}
+use Rattle.guideline.proofs.Run.{refused-here, chosen-then}
 use Rattle.cells.specs.Tally.{told}
 use Rattle.cells.proofs.Tallied.{told-one}
-use Rattle.filter.specs.declared.Frequency.{Frequency}
 use Rattle.filter.specs.declared.Filter.{Filter}
-use Rattle.filter.specs.declared.Filter.the-variants.{Exact, Twin, UnitOrTwin, Count}
+use Rattle.filter.specs.declared.Filter.the-variants.{Exact, Twin}
 use Rattle.filter.specs.Filters.{filter643, frequency-of}
-use Rattle.filter.proofs.Frequencies.{exact-filter, twin-filter, unit-filter, count-filter}
-use Rattle.dose_row.specs.Matched.{frequency-kept}
+use Rattle.filter.proofs.Frequencies.{exact-filter, twin-filter}
+use Rattle.sieve.specs.Matched.{frequency-kept}
+use Rattle.sieve.proofs.Frequencies.{has-exact, has-twin}
 
 -- a filter that leaves no row is refused; else it goes on with what it leaves
 module _ (p : Row643 → Bool) (t : Table Row643) (d : Datum → Value) (none : Ending) where
@@ -36,61 +41,39 @@ module _ (p : Row643 → Bool) (t : Table Row643) (d : Datum → Value) (none : 
   unfolding narrow when
   narrow-some h = rw h
 
--- which of step 9's two filters the rows are kept by
-module _ (f : Frequency) (t : Table Row643) where
-  pub kept-exact : some (t (filter643 (Exact f))) ≡ true → Exact f ≡ frequency-kept f t
-  kept-exact h = rw h
+-- step 9
+module _ (limits : Table Row649) (p : Prescription) (c : Context) (t : Table Row643) (d : Datum → Value) where
+  frequency-exact : has-exact p t ≡ true → run d (by-frequency limits p c t) ≡ Chosen (among (filter643 (Exact (frequency-of p))) t)
+  unfolding by-frequency when
+  frequency-exact h = rw (exact-filter p, h)
 
-  pub kept-twin : some (t (filter643 (Exact f))) ≡ false → Twin f ≡ frequency-kept f t
-  kept-twin h = rw h
+  frequency-twin : has-exact p t ≡ false → has-twin p t ≡ true → run d (by-frequency limits p c t) ≡ Chosen (among (filter643 (Twin (frequency-of p))) t)
+  unfolding by-frequency when
+  frequency-twin h k = rw (exact-filter p, twin-filter p, h, k)
 
--- step 9, by the tests of the entered frequency
-module _ (p : Prescription) (t : Table Row643) where
-  abbrev has-exact : Bool
-  has-exact = some (t (filter643 (Exact (frequency-of p))))
+  pub frequency-found : (q : Filter) → q ≡ frequency-kept (frequency-of p) t → some (t (filter643 q)) ≡ true → run d (by-frequency limits p c t) ≡ Chosen (among (filter643 q) t)
+  frequency-found = go (has-exact p t) refl
+    where
+      go : (b : Bool) → has-exact p t ≡ b → (q : Filter) → q ≡ cond b (Exact (frequency-of p)) (Twin (frequency-of p)) → some (t (filter643 q)) ≡ true → run d (by-frequency limits p c t) ≡ Chosen (among (filter643 q) t)
+      go true h q e hit = rw e (frequency-exact h)
+      go false h q e hit = rw e (frequency-twin h (rw e at hit))
 
-  abbrev has-twin : Bool
-  has-twin = some (t (filter643 (Twin (frequency-of p))))
+  pub frequency-none : has-exact p t ≡ false → has-twin p t ≡ false → run d (by-frequency limits p c t) ≡ run d (no-frequency limits p c t)
+  unfolding by-frequency when
+  frequency-none h k = rw (exact-filter p, twin-filter p, h, k)
 
-  abbrev has-unit : Bool
-  has-unit = some (t (filter643 (UnitOrTwin (frequency-of p))))
+  -- P4's two questions end step 9; else the signal does, suppressed or not
+  pub signal-asked : {w : Refusal} → run d (suppresses limits p c t) ≡ Refused w tt → run d (no-frequency limits p c t) ≡ Refused w tt
+  unfolding no-frequency
+  signal-asked h = sym (refused-here (λ o. o) d (suppresses limits p c t) _ h)
 
-  abbrev has-count : Bool
-  has-count = some (t (filter643 (Count (frequency-of p))))
+  pub signal-suppressed : run d (suppresses limits p c t) ≡ Chosen true → run d (no-frequency limits p c t) ≡ Refused (Ends (Suppressed (signal p t))) tt
+  unfolding no-frequency when refuse
+  signal-suppressed h = sym (chosen-then (λ o. o) d (suppresses limits p c t) _ h)
 
-  module _ (d : Datum → Value) where
-    frequency-exact : has-exact ≡ true → run d (by-frequency p t) ≡ Chosen (among (filter643 (Exact (frequency-of p))) t)
-    unfolding by-frequency when
-    frequency-exact h = rw (exact-filter p, h)
-
-    frequency-twin : has-exact ≡ false → has-twin ≡ true → run d (by-frequency p t) ≡ Chosen (among (filter643 (Twin (frequency-of p))) t)
-    unfolding by-frequency when
-    frequency-twin h k = rw (exact-filter p, twin-filter p, h, k)
-
-    pub frequency-found : (q : Filter) → q ≡ frequency-kept (frequency-of p) t → some (t (filter643 q)) ≡ true → run d (by-frequency p t) ≡ Chosen (among (filter643 q) t)
-    frequency-found = go has-exact refl
-      where
-        go : (b : Bool) → has-exact ≡ b → (q : Filter) → q ≡ cond b (Exact (frequency-of p)) (Twin (frequency-of p)) → some (t (filter643 q)) ≡ true → run d (by-frequency p t) ≡ Chosen (among (filter643 q) t)
-        go true h q e hit = rw e (frequency-exact h)
-        go false h q e hit = rw e (frequency-twin h (rw e at hit))
-
-    pub frequency-none : has-exact ≡ false → has-twin ≡ false → run d (by-frequency p t) ≡ Refused (Ends (NoFrequency (signal p t))) tt
-    unfolding by-frequency no-frequency when refuse
-    frequency-none h k = rw (exact-filter p, twin-filter p, h, k)
-
-  pub count-differs : has-unit ≡ true → Signal.OnlyCount ≡ signal p t
-  unfolding signal when
-  count-differs h = rw (ap (λ (q : Row643 → Bool). some (t q)) (unit-filter p) ∙ h)
-
-  pub unit-differs : has-unit ≡ false → has-count ≡ true → Signal.OnlyUnit ≡ signal p t
-  unfolding signal when
-  unit-differs h k =
-      rw (ap (λ (q : Row643 → Bool). some (t q)) (unit-filter p) ∙ h, ap (λ (q : Row643 → Bool). some (t q)) (count-filter p) ∙ k)
-
-  pub both-differ : has-unit ≡ false → has-count ≡ false → Signal.Both ≡ signal p t
-  unfolding signal when
-  both-differ h k =
-      rw (ap (λ (q : Row643 → Bool). some (t q)) (unit-filter p) ∙ h, ap (λ (q : Row643 → Bool). some (t q)) (count-filter p) ∙ k)
+  pub signal-stands : run d (suppresses limits p c t) ≡ Chosen false → run d (no-frequency limits p c t) ≡ Refused (Ends (NoFrequency (signal p t))) tt
+  unfolding no-frequency when refuse
+  signal-stands h = sym (chosen-then (λ o. o) d (suppresses limits p c t) _ h)
 
 -- step 10
 module _ (q : Question) (none : Ending) (bounds : Row643 → Bounds) (t : Table Row643) (d : Datum → Value) where

@@ -16,14 +16,13 @@ use Rattle.guideline.specs.Ask.{asks-for, Chosen, Refused, run, no-refusal}
 use Rattle.guideline.specs.Rows.{width}
 use Rattle.guideline.specs.Steps.{by-measure}
 use Rattle.cells.specs.Views.{Fits}
-use Rattle.filter.specs.declared.Filter.{Filter}
 use Rattle.filter.specs.declared.Measure.{Measure}
 use Rattle.filter.specs.declared.Measure.the-variants.{Weight, Surface}
 use Rattle.filter.specs.Filters.{measure-bounds}
-use Rattle.dose_row.specs.declared.settled.Settled.{Settled}
+use Rattle.sieve.specs.declared.settled.Settled.{Settled}
 use Rattle.dose_row.specs.declared.by_measure.Measured.{Measured}
 use Rattle.dose_row.specs.declared.by_measure.Measured.the-variants.{Rows, Refused as NoRows}
-use Rattle.dose_row.specs.Settled.{kept}
+use Rattle.sieve.specs.Settled.{kept, other-filter}
 
 abbrev pub question-of : Measure → Question
 question-of Weight = WeightOfRow
@@ -32,15 +31,6 @@ question-of Surface = SurfaceOfRow
 abbrev pub ending-of : Measure → Ending
 ending-of Weight = NoRowForWeight
 ending-of Surface = NoRowForSurface
-
--- what is settled of the measure, and of the other
-abbrev pub own-filter : Measure → Settled → Filter
-own-filter Weight s = s .weight
-own-filter Surface s = s .surface
-
-abbrev pub other-filter : Measure → Settled → Filter
-other-filter Weight s = s .surface
-other-filter Surface s = s .weight
 
 -- rows that are left are no refusal
 abbrev pub refusal-of : Measured → Refusal

@@ -5,8 +5,8 @@ ghost use Rattle.guideline.specs.declared.rows.TableName.the-variants.{T643};
 ghost use Rattle.guideline.specs.Rows.{width};
 ghost use Rattle.cells.specs.Views.{Fits};
 ghost use Rattle.filter.specs.declared.Filter.the-variants.{Every};
-ghost use Rattle.dose_row.specs.Measured.{question-of, ending-of, own-filter, refusal-of, Leaves};
-use crate::settled::Settled;
+ghost use Rattle.dose_row.specs.Measured.{question-of, ending-of, refusal-of, Leaves};
+ghost use Rattle.sieve.specs.Settled.{own-filter};
 use filter::Filter;
 use filter::Measure;
 use guideline::entries::Value;
@@ -14,6 +14,7 @@ use guideline::refusals::Ending;
 use guideline::refusals::Question;
 use guideline::refusals::Refusal;
 use guideline::view::View;
+use sieve::settled::Settled;
 
 pub enum Measured {
     Rows(View, Settled),

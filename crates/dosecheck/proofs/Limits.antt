@@ -15,7 +15,8 @@ use Rattle.guideline.specs.declared.rows.TableName.the-variants.{T640, T641, T6
 use Rattle.guideline.specs.Ask.{Plan, Done, at, Outcome, Chosen, Refused, run, _>>=_}
 use Rattle.guideline.specs.Table.{Table, Hits, None, One, Many}
 use Rattle.guideline.specs.Rows.{Row, keyed}
-use Rattle.guideline.specs.Steps.{refuse, one, choose, limits-of}
+use Rattle.guideline.specs.Forms.{refuse, one, choose}
+use Rattle.guideline.specs.Steps.{limits-of}
 use Rattle.guideline.proofs.Gives.{Gives}
 use Rattle.guideline.proofs.Holds.{Holds, holds-done, holds-stop, holds-all, holds-bind, run-holds, Any, Comes}
 use Rattle.selection.specs.Links.{from-product}

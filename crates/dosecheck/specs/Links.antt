@@ -1,21 +1,13 @@
 -- Steps 2 to 12 from each step on: guideline's `over-sound` cut where the code hands on (proofs/Linked.antt).
-use mathlib.Core.Path.{_≡_}
-use mathlib.Core.Bool.{true}
 use Rattle.guideline.specs.declared.answer.Reached.{Reached}
 use Rattle.guideline.specs.declared.context.Ratio.{Ratio}
 use Rattle.guideline.specs.declared.entries.Prescription.{Prescription}
 use Rattle.guideline.specs.declared.rows.TableName.the-variants.{T640, T641, T642, T643, T649, T730}
 use Rattle.guideline.specs.Ask.{Plan, Done, _>>=_, at}
-use Rattle.guideline.specs.Entries.{prescription-in-range}
 use Rattle.guideline.specs.Table.{Table}
-use Rattle.guideline.specs.Rows.{Row, sound-row}
-use Rattle.guideline.specs.Steps.{all-rows, ratio, nothing, to-rule, comparison, Verdict}
+use Rattle.guideline.specs.Rows.{Row}
+use Rattle.guideline.specs.Steps.{ratio, nothing, to-rule, comparison, Verdict}
 use Rattle.selection.specs.Links.{from-product}
-
--- what step 1 leaves to rely on: an entry in range, and limits in range
-pub record Tested (p : Prescription) (t649 : Table (Row T649)) : Type 0 where
-  pub prescription : prescription-in-range p ≡ true
-  pub limits : all-rows (sound-row T649) t649 ≡ true
 
 module _ (t640 : Table (Row T640)) (t641 : Table (Row T641)) (t642 : Table (Row T642)) (t643 : Table (Row T643)) (t649 : Table (Row T649)) where
   abbrev pub from-selection : Prescription → Ratio → Plan Reached Verdict

@@ -17,7 +17,7 @@ use Rattle.guideline.proofs.TwinTraps.{twin-tables}
 -- a list of so many places, with two numbers that are no place; 7 stands in all of them
 abbrev sevens : ℕ → List ℕ
 sevens zero = 7 ∷ 7 ∷ []
-sevens (suc n) = 7 ∷ 7 ∷ 7 ∷ 7 ∷ 7 ∷ 7 ∷ 7 ∷ 7 ∷ sevens n
+sevens (suc n) = 7 ∷ 7 ∷ 7 ∷ 7 ∷ 7 ∷ 7 ∷ 7 ∷ 7 ∷ 7 ∷ sevens n
 
 -- a range of an entry: the refusal, and the list after the call
 pub record Range : Type 0 where
@@ -35,14 +35,14 @@ range own first last places refusal list =
 
 -- at K1's age all rows are for twice a day
 abbrev other-count : List ℕ
-other-count = 115 ∷ 24 ∷ 0 ∷ 1500 ∷ 33784 ∷ 0 ∷ 0 ∷ 0 ∷ []
+other-count = 115 ∷ 24 ∷ 0 ∷ 1500 ∷ 33784 ∷ 0 ∷ 0 ∷ 0 ∷ 0 ∷ []
 
 abbrev twice : List ℕ
-twice = 100 ∷ 0 ∷ 0 ∷ 1500 ∷ 33784 ∷ 1 ∷ 0 ∷ 0 ∷ []
+twice = 100 ∷ 0 ∷ 0 ∷ 1500 ∷ 33784 ∷ 1 ∷ 0 ∷ 0 ∷ 0 ∷ []
 
 -- 125: a count of 0 or above 999; a setting of 2
 abbrev out-of-range : List ℕ
-out-of-range = 125 ∷ 0 ∷ 0 ∷ 0 ∷ 0 ∷ 0 ∷ 0 ∷ 0 ∷ []
+out-of-range = 125 ∷ 0 ∷ 0 ∷ 0 ∷ 0 ∷ 0 ∷ 0 ∷ 0 ∷ 0 ∷ []
 
 unfoldable pub ranges : List Range
 ranges =
@@ -71,10 +71,10 @@ ranges =
 -- P3. Per 36 and per 41 category 7 has twice, and once their twins 35 and 40 (TwinTraps): with the setting on, and where none is given, 1 to 2
 -- times is checked against both; with off one of them has no row. A setting other than on and off is 125 at each place
 abbrev by-rule : ℕ → List ℕ
-by-rule rule = 100 ∷ 0 ∷ 0 ∷ 5 ∷ 7 ∷ rule ∷ 0 ∷ 0 ∷ []
+by-rule rule = 100 ∷ 0 ∷ 0 ∷ 5 ∷ 7 ∷ rule ∷ 0 ∷ 0 ∷ 0 ∷ []
 
 abbrev no-row : List ℕ
-no-row = 115 ∷ 24 ∷ 0 ∷ 5 ∷ 7 ∷ 0 ∷ 0 ∷ 0 ∷ []
+no-row = 115 ∷ 24 ∷ 0 ∷ 5 ∷ 7 ∷ 0 ∷ 0 ∷ 0 ∷ 0 ∷ []
 
 abbrev once-or-twice : ℕ → ℕ → List ℕ → Range
 once-or-twice unit months list =

@@ -37,7 +37,7 @@ counts-in first last = suc last - first
 abbrev pub most-counts : ℕ
 most-counts = 16
 
--- the places of a lent list; each holds the numbers of one answer, place i those from i * 8 on
+-- the places of a lent list; each holds the numbers of one answer, place i those from i * 9 on
 abbrev pub places-in : List ℕ → ℕ
 places-in list = length list / answer-length
 

@@ -6,7 +6,7 @@ use crate::context::Context;
 use crate::rows::Row641;
 use crate::rows::Row643;
 
-// The eight numbers.
+// The nine numbers.
 pub struct Answer {
     pub answer: u32,
     pub text: u32,
@@ -16,10 +16,11 @@ pub struct Answer {
     pub rule: u32,
     pub high: u32,
     pub low: u32,
+    pub suppressed: u32,
 }
 
 impl Answer {
-    pub const LENGTH: usize = 8;
+    pub const LENGTH: usize = 9;
 
     // The one list of the numbers in the code.
     pub fn numbers(self) -> [u32; Answer::LENGTH]
@@ -34,6 +35,7 @@ impl Answer {
             self.rule,
             self.high,
             self.low,
+            self.suppressed,
         ]
     }
 }

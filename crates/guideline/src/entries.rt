@@ -30,7 +30,7 @@ impl Switch {
 
     pub const ON: u32 = 1;
 
-    // P3: not given means off.
+    // P3 and P4: not given means off.
     pub fn on(self) -> bool
         ensures { λ r. ⌜ r ≡ switched self ⌝ }
     {
@@ -70,6 +70,7 @@ impl Entry {
         ensures { λ r. ⌜ r ≡ with-months months self ⌝ }
     {
         let p = self.rest;
+        let quiet = p.quiet;
         let rest = Prescription {
             gpk: p.gpk,
             care: p.care,
@@ -85,6 +86,7 @@ impl Entry {
             srtcde: p.srtcde,
             code: p.code,
             months,
+            quiet,
         };
         let known = self.known;
         Entry { known, rest }
@@ -116,4 +118,5 @@ pub struct Prescription {
     pub srtcde: u32,
     pub code: u32,
     pub months: Switch,
+    pub quiet: Switch,
 }

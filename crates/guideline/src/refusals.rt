@@ -9,6 +9,8 @@ pub enum Question {
     SexOfPerson,
     HpkOfLevel,
     PrkOfLevel,
+    WeightPerDay,
+    SurfacePerDay,
     WeightOfRow,
     SurfaceOfRow,
 }
@@ -20,7 +22,8 @@ pub enum Signal {
     Both,
 }
 
-// How a check ends without a comparison, other than by a missing datum: one for each test of "Order of steps", in its order.
+// How a check ends before its comparison (step 12), other than by a missing datum: one for each test of "Order of steps", in its order. `Suppressed` is P4's:
+// the answer is 100 then.
 pub enum Ending {
     EntryOutOfRange,
     NotWhole(TableName),
@@ -43,6 +46,7 @@ pub enum Ending {
     SettingSeveral,
     TooManyRows,
     NoRowForAge,
+    Suppressed(Signal),
     NoFrequency(Signal),
     NoRowForWeight,
     NoRowForSurface,

@@ -81,3 +81,8 @@ impl Row641 {
 
     pub const PRODUCT_LEVEL: u32 = 2;
 }
+
+impl Row649 {
+    // A limit that is 0 is none.
+    pub const NO_LIMIT: u32 = 0;
+}

@@ -1,6 +1,6 @@
 // The time unit of a frequency.
 ghost use mathlib.Core.Path.{_≡_};
-ghost use Rattle.guideline.specs.Values.{pair, twins};
+ghost use Rattle.guideline.specs.Values.{per-day, pair, twins};
 use crate::both;
 use crate::either;
 
@@ -29,7 +29,7 @@ impl TimeUnit {
     pub const PER_6_MONTHS: u32 = 51;
 
     pub fn per_day() -> TimeUnit
-        ensures { λ r. ⌜ r ≡ record { code = 19 } ⌝ }
+        ensures { λ r. ⌜ r ≡ record { code = per-day } ⌝ }
     {
         TimeUnit {
             code: TimeUnit::PER_DAY,

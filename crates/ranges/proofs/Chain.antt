@@ -12,7 +12,7 @@ use Rattle.guideline.specs.declared.refusals.Refusal.{Refusal}
 use Rattle.guideline.specs.declared.refusals.Refusal.the-variants.{Ends}
 use Rattle.guideline.specs.Rows.{sound-row}
 use Rattle.guideline.specs.Bytes.{Lents, by-rows, spelled}
-use Rattle.guideline.specs.Steps.{all-rows}
+use Rattle.guideline.specs.Table.{all-rows}
 use Rattle.cells.specs.Lents.{shown}
 use Rattle.keys.specs.declared.seen.AllSeen.{AllSeen}
 use Rattle.keys.specs.Seen.{seen-of, all-seen}

@@ -7,7 +7,7 @@ use lib.ListN.{length}
 use Rattle.guideline.specs.declared.rows.TableName.{TableName}
 use Rattle.guideline.specs.declared.view.View.{View}
 use Rattle.guideline.specs.Rows.{Row, width, sound-row}
-use Rattle.guideline.specs.Steps.{all-rows}
+use Rattle.guideline.specs.Table.{all-rows}
 use Rattle.cells.specs.Views.{Fits}
 use Rattle.cells.specs.Lents.{shown, row-at, key-at}
 use Rattle.cells.proofs.Tallied.{tallying-none, tallying-miss}

@@ -4,7 +4,7 @@ ghost use mathlib.Core.Bool.{false};
 ghost use Prim.Native.Nat.{_<_};
 ghost use lib.ListN.{length};
 ghost use Rattle.guideline.specs.Rows.{width, sound-row};
-ghost use Rattle.guideline.specs.Steps.{all-rows};
+ghost use Rattle.guideline.specs.Table.{all-rows};
 ghost use Rattle.cells.specs.Views.{Fits};
 ghost use Rattle.cells.specs.Lents.{shown, row-at, key-at};
 ghost use Rattle.keys.specs.Keys.{key-of};

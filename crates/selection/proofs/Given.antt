@@ -9,7 +9,8 @@ use Rattle.guideline.specs.declared.entries.Value.the-variants.{Given}
 use Rattle.guideline.specs.declared.rows.Row641.{Row641}
 use Rattle.guideline.specs.Ask.{run, _>>=_}
 use Rattle.guideline.specs.Table.{Table, some}
-use Rattle.guideline.specs.Steps.{when, ask, hpk-level, prk-level, by-prk, by-hpk}
+use Rattle.guideline.specs.Forms.{when, ask}
+use Rattle.guideline.specs.Steps.{hpk-level, prk-level, by-prk, by-hpk}
 use Rattle.selection.specs.Level.{of-prk, of-hpk}
 
 module _ (t : Table Row641) (d : Datum → Value) {n : ℕ} where

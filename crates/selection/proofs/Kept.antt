@@ -13,7 +13,8 @@ use Rattle.guideline.specs.Ask.{run}
 use Rattle.guideline.specs.Rows.{keyed}
 use Rattle.guideline.specs.Table.{Table, Hits, None, One, Many, some, among, every}
 use Rattle.guideline.specs.Values.{intensive-care, no-reason, no-route}
-use Rattle.guideline.specs.Steps.{one, choose, refuse, of-care, of-reason, of-route, keep-care, keep-reason, keep-route, setting}
+use Rattle.guideline.specs.Forms.{one, choose, refuse}
+use Rattle.guideline.specs.Steps.{of-care, of-reason, of-route, keep-care, keep-reason, keep-route, setting}
 use Rattle.tables.specs.Found.{found642}
 use Rattle.tables.specs.Tests.{test642}
 use Rattle.tables.specs.declared.t642.Test642.the-variants.{Care, Reason, Route}

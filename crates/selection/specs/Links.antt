@@ -20,7 +20,7 @@ module _ (t649 : Table (Row T649)) where
 
 module _ (t643 : Table (Row T643)) (t649 : Table (Row T649)) (p : Prescription) where
   abbrev pub from-rows : Context → Plan Reached Selected
-  from-rows c = at (to-category c) (dose-row t643 p c) >>= λ x. from-limits t649 c x
+  from-rows c = at (to-category c) (dose-row t643 t649 p c) >>= λ x. from-limits t649 c x
 
 module _ (t642 : Table (Row T642)) (t643 : Table (Row T643)) (t649 : Table (Row T649)) (p : Prescription) (q : Ratio) where
   abbrev pub from-setting : Row T640 → ℕ → Row T641 → Plan Reached Selected

@@ -1,3 +1,4 @@
 pub mod Visited
 pub mod Asked
 pub mod Stretches
+pub mod Found

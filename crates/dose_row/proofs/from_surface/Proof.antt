@@ -6,11 +6,12 @@ use Rattle.guideline.specs.Entries.{datum}
 use Rattle.guideline.specs.Steps.{by-surface, one-row}
 use Rattle.filter.specs.declared.Measure.the-variants.{Surface}
 use Rattle.dose_row.specs.declared.Chosen643.the-variants.{Refused}
+use Rattle.dose_row.specs.Chosen.{chosen643}
 use Rattle.dose_row.specs.Links.{from-surface}
 use Rattle.dose_row.specs.Measured.{refusal-of}
-use Rattle.dose_row.specs.Settled.{kept}
+use Rattle.sieve.specs.Settled.{kept}
 use Rattle.dose_row.proofs.MeasureTold.{told-measure}
-use Rattle.dose_row.proofs.Links.{refused-here, chosen-then}
+use Rattle.guideline.proofs.Run.{refused-here, chosen-then}
 use Rattle.dose_row.proofs.from_surface.Statement.{statement}
 use Rattle.dose_row.proofs.from_surface.Tie as tie
 
@@ -23,7 +24,7 @@ returns c =
     let l = now (a .t643) in
     let no = told-measure l (a .v) (a .s) Surface (a .d .surface) (at-step .by-measure .ensures) (at-told .enum-told .given .1) in
     ap Refused (c .refusal .ensures ∙ ap refusal-of (at-told .enum-told .given .1))
-    ∙ refused-here (datum (a .d)) (by-surface (kept l (a .v) (a .s))) one-row (no (datum (a .d)) refl)
+    ∙ refused-here chosen643 (datum (a .d)) (by-surface (kept l (a .v) (a .s))) one-row (no (datum (a .d)) refl)
 
 one-row-requires : tie.Need-one-row-requires
 one-row-requires c κs =
@@ -43,7 +44,7 @@ returns-2 c =
     let l = now (a .t643) in
     let yes = told-measure l (a .v) (a .s) Surface (a .d .surface) (at-step .by-measure .ensures) (at-rows .step .given .1) in
     c .one-row .ensures (datum (a .d))
-    ∙ chosen-then (datum (a .d)) (by-surface (kept l (a .v) (a .s))) one-row (yes .2 (datum (a .d)) refl)
+    ∙ chosen-then chosen643 (datum (a .d)) (by-surface (kept l (a .v) (a .s))) one-row (yes .2 (datum (a .d)) refl)
 
 pub from-surface-spec : {M : Type 1} → statement M
 from-surface-spec = tie.close (tie.spec (λ c κs. search needs) (λ c. search needs) (λ c. search needs) (λ c κs. search needs) returns one-row-requires returns-2)

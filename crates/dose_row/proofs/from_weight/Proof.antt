@@ -6,11 +6,12 @@ use Rattle.guideline.specs.Entries.{datum}
 use Rattle.guideline.specs.Steps.{by-weight}
 use Rattle.filter.specs.declared.Measure.the-variants.{Weight}
 use Rattle.dose_row.specs.declared.Chosen643.the-variants.{Refused}
+use Rattle.dose_row.specs.Chosen.{chosen643}
 use Rattle.dose_row.specs.Links.{from-weight, from-surface}
 use Rattle.dose_row.specs.Measured.{refusal-of}
-use Rattle.dose_row.specs.Settled.{kept}
+use Rattle.sieve.specs.Settled.{kept}
 use Rattle.dose_row.proofs.MeasureTold.{told-measure}
-use Rattle.dose_row.proofs.Links.{refused-here, chosen-then}
+use Rattle.guideline.proofs.Run.{refused-here, chosen-then}
 use Rattle.dose_row.proofs.from_weight.Statement.{statement}
 use Rattle.dose_row.proofs.from_weight.Tie as tie
 
@@ -23,7 +24,7 @@ returns c =
     let l = now (a .t643) in
     let no = told-measure l (a .v) (a .s) Weight (a .d .weight) (at-step .by-measure .ensures) (at-told .enum-told .given .1) in
     ap Refused (c .refusal .ensures ∙ ap refusal-of (at-told .enum-told .given .1))
-    ∙ refused-here (datum (a .d)) (by-weight (kept l (a .v) (a .s))) from-surface (no (datum (a .d)) refl)
+    ∙ refused-here chosen643 (datum (a .d)) (by-weight (kept l (a .v) (a .s))) from-surface (no (datum (a .d)) refl)
 
 from-surface-requires : tie.Need-from-surface-requires
 from-surface-requires c κs =
@@ -44,7 +45,7 @@ returns-2 c =
     let l = now (a .t643) in
     let yes = told-measure l (a .v) (a .s) Weight (a .d .weight) (at-step .by-measure .ensures) (at-rows .step .given .1) in
     c .from-surface .ensures
-    ∙ chosen-then (datum (a .d)) (by-weight (kept l (a .v) (a .s))) from-surface (yes .2 (datum (a .d)) refl)
+    ∙ chosen-then chosen643 (datum (a .d)) (by-weight (kept l (a .v) (a .s))) from-surface (yes .2 (datum (a .d)) refl)
 
 pub from-weight-spec : {M : Type 1} → statement M
 from-weight-spec = tie.close (tie.spec (λ c κs. search needs) (λ c. search needs) (λ c. search needs) (λ c κs. search needs) returns from-surface-requires returns-2)

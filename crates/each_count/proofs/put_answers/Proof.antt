@@ -41,7 +41,7 @@ slice-aggregate-put-numbers c = rw (c .before .numbers .ensures) refl
 
 put-numbers-requires : tie.Need-put-numbers-requires Inv-loop μ-loop
 put-numbers-requires c κs =
-    let eight : length (c .before .numbers .result) ≡ answer-length = rw (c .before .numbers .ensures) refl in
+    let nine : length (c .before .numbers .result) ≡ answer-length = rw (c .before .numbers .ensures) refl in
     omega (arith, c .before .before .before .before .before .before .before .before .before .before .before .before .before .before .before .pre .1, c .before .before .before .before .before .loop-test .taken, c .before .before .before .before .before .before .loop .inv .1)
 
 add-i : tie.Need-add-i Inv-loop μ-loop

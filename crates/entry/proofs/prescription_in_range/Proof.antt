@@ -16,7 +16,9 @@ returns c =
     let c7 = c6 .before in
     let c8 = c7 .before in
     let c9 = c8 .before in
-    rw (c .both4 .ensures, c1 .both3 .ensures, c2 .setting-in-range .ensures, c3 .holds .ensures, c4 .codes .ensures, c5 .both2 .ensures, c6 .dose-in-range .ensures, c7 .both .ensures, c8 .switch-in-range .ensures, c9 .units-in-range .ensures)
+    let c10 = c9 .before in
+    let c11 = c10 .before in
+    rw (c .both5 .ensures, c1 .both4 .ensures, c2 .setting-in-range .ensures, c3 .holds .ensures, c4 .codes .ensures, c5 .both3 .ensures, c6 .both2 .ensures, c7 .units-in-range .ensures, c8 .dose-in-range .ensures, c9 .both .ensures, c10 .switch-in-range2 .ensures, c11 .switch-in-range .ensures)
 
 pub prescription-in-range-spec : {M : Type 1} → statement M
-prescription-in-range-spec = tie.close (tie.spec (λ c κs. search needs) (λ c κs. search needs) (λ c κs. search needs) (λ c κs. search needs) (λ c κs. search needs) (λ c κs. search needs) (λ c κs. search needs) (λ c κs. search needs) (λ c κs. search needs) (λ c κs. search needs) returns)
+prescription-in-range-spec = tie.close (tie.spec (λ c κs. search needs) (λ c κs. search needs) (λ c κs. search needs) (λ c κs. search needs) (λ c κs. search needs) (λ c κs. search needs) (λ c κs. search needs) (λ c κs. search needs) (λ c κs. search needs) (λ c κs. search needs) (λ c κs. search needs) (λ c κs. search needs) returns)

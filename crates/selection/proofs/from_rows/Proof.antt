@@ -2,7 +2,7 @@
 use borrow.Author.Needs.{needs}
 use mathlib.Core.Path.{sym, _∙_, ap, ap₂}
 use denote.Ref.{now}
-use Rattle.guideline.specs.declared.rows.TableName.the-variants.{T643}
+use Rattle.guideline.specs.declared.rows.TableName.the-variants.{T643, T649}
 use Rattle.guideline.specs.Entries.{datum}
 use Rattle.guideline.specs.Ask.{run}
 use Rattle.guideline.specs.Steps.{dose-row, to-category}
@@ -22,7 +22,7 @@ returns c =
     let at-step = at-told .before .before in
     let a = at-step .before .before .before .args in
     let d = datum (a .d) in
-    let p = dose-row (rows T643 (now (a .t643))) (a .p) (a .c) in
+    let p = dose-row (rows T643 (now (a .t643))) (rows T649 (now (a .t649))) (a .p) (a .c) in
     let no = told-643 (run d p) (at-step .dose-row .ensures) (at-told .enum-told .given .1) in
     ap₂ Refused (at-refusal .refusal .ensures ∙ ap refusal643 (at-told .enum-told .given .1)) (c .to-category .ensures) ∙ sym (ap selected (step-refused d (to-category (a .c)) p _ no))
 
@@ -32,7 +32,7 @@ returns-2 c =
     let at-step = at-row .before .before in
     let a = at-step .before .before .before .args in
     let d = datum (a .d) in
-    let p = dose-row (rows T643 (now (a .t643))) (a .p) (a .c) in
+    let p = dose-row (rows T643 (now (a .t643))) (rows T649 (now (a .t649))) (a .p) (a .c) in
     let yes = told-643 (run d p) (at-step .dose-row .ensures) (at-row .step .given .1) in
     c .from-limits .ensures ∙ sym (ap selected (step-chosen d (to-category (a .c)) p _ yes))
 

@@ -12,11 +12,11 @@ use Rattle.guideline.specs.Ask.{Chosen, Refused}
 use Rattle.guideline.specs.Values.{fits}
 use Rattle.cells.proofs.Views.{narrowed-first, narrowed-fits}
 use Rattle.filter.specs.declared.Filter.the-variants.{FitsMeasure, Matters}
-use Rattle.filter.specs.Filters.{measure-bounds}
-use Rattle.dose_row.specs.Measured.{question-of, ending-of, other-filter}
-use Rattle.dose_row.specs.Settled.{and-measure, kept}
-use Rattle.dose_row.proofs.Joined.{measure-joins, other-stays}
-use Rattle.dose_row.proofs.Kept.{first-none, first-some, narrowed-kept}
+use Rattle.filter.specs.Filters.{filter643, measure-bounds}
+use Rattle.dose_row.specs.Measured.{question-of, ending-of}
+use Rattle.sieve.specs.Settled.{and-measure, other-filter, kept}
+use Rattle.sieve.proofs.Joined.{measure-joins, other-stays}
+use Rattle.sieve.proofs.Kept.{first-none, first-some, narrowed-kept}
 use Rattle.dose_row.proofs.Narrowed.{narrow-none, narrow-some, measure-unneeded, measure-blank, measure-given}
 use Rattle.dose_row.proofs.by_measure.by_measure.Statement.{statement}
 use Rattle.dose_row.proofs.by_measure.by_measure.Tie as tie
@@ -27,7 +27,7 @@ returns c =
     let at-start = at-matters .before .before in
     let a = at-start .args in
     let l = now (a .t643) in
-    let unneeded = first-none l (a .v) (a .s) (Matters (a .m)) (at-matters .first .ensures) (c .if1 .taken) in
+    let unneeded = first-none l (a .v) (a .s) (filter643 (Matters (a .m))) (at-matters .first .ensures) (c .if1 .taken) in
     (at-start .pre .0, refl, λ d e. measure-unneeded (question-of (a .m)) (ending-of (a .m)) (measure-bounds (a .m)) (kept l (a .v) (a .s)) d unneeded)
 
 returns-2 : tie.Need-returns-2
@@ -37,7 +37,7 @@ returns-2 c =
     let at-matters = at-if .before .before in
     let a = at-matters .before .before .args in
     let l = now (a .t643) in
-    let needed = first-some l (a .v) (a .s) (Matters (a .m)) (at-matters .first .ensures) (at-if .if1 .left) in
+    let needed = first-some l (a .v) (a .s) (filter643 (Matters (a .m))) (at-matters .first .ensures) (at-if .if1 .left) in
     λ d e.
     measure-blank (question-of (a .m)) (ending-of (a .m)) (measure-bounds (a .m)) (kept l (a .v) (a .s)) d needed (e ∙ at-told .enum-told .given .1)
     ∙ ap (λ (q : Question). Refused (Asks q) tt) (sym (c .question-of .ensures))
@@ -53,8 +53,8 @@ returns-3 c =
     let l = now (a .t643) in
     let x = at-given .value .given .0 .0 in
     let t = kept l (a .v) (a .s) in
-    let needed = first-some l (a .v) (a .s) (Matters (a .m)) (at-matters .first .ensures) (at-if .if1 .left) in
-    let none-left = first-none l (a .v) (a .s) (FitsMeasure (a .m) x) (at-first .first2 .ensures) (omega arith) in
+    let needed = first-some l (a .v) (a .s) (filter643 (Matters (a .m))) (at-matters .first .ensures) (at-if .if1 .left) in
+    let none-left = first-none l (a .v) (a .s) (filter643 (FitsMeasure (a .m) x)) (at-first .first2 .ensures) (omega arith) in
     λ d e.
     measure-given (question-of (a .m)) (ending-of (a .m)) (measure-bounds (a .m)) t d needed (e ∙ at-given .value .given .1)
     ∙ narrow-none (λ r. fits (measure-bounds (a .m) r) x) t d (ending-of (a .m)) none-left
@@ -83,8 +83,8 @@ returns-4 c =
     let x = at-given .value .given .0 .0 in
     let i = at-first .first2 .result in
     let t = kept l (a .v) (a .s) in
-    let needed = first-some l (a .v) (a .s) (Matters (a .m)) (at-matters .first .ensures) (at-if .if1 .left) in
-    let some-left = first-some l (a .v) (a .s) (FitsMeasure (a .m) x) (at-first .first2 .ensures) (λ e. omega arith) in
+    let needed = first-some l (a .v) (a .s) (filter643 (Matters (a .m))) (at-matters .first .ensures) (at-if .if1 .left) in
+    let some-left = first-some l (a .v) (a .s) (filter643 (FitsMeasure (a .m) x)) (at-first .first2 .ensures) (λ e. omega arith) in
     let inside = narrowed-fits i (a .v .rows) (at-first .first2 .ensures .0) (omega arith) (at-start .pre .0) in
     let left = narrowed-kept l (a .v) (a .s) (and-measure (a .s) (a .m) x) (FitsMeasure (a .m) x) (measure-joins (a .m) (a .s) x (at-start .pre .1)) (at-first .first2 .ensures) (at-narrow .narrow .ensures) (c .by-measure .ensures) in (
       rw (at-narrow .narrow .ensures) inside,

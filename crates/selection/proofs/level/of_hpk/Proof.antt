@@ -4,11 +4,12 @@ use denote.Ref.{now}
 use Rattle.guideline.specs.declared.rows.TableName.the-variants.{T641}
 use Rattle.guideline.specs.Table.{among}
 use Rattle.guideline.specs.Rows.{keyed}
-use Rattle.guideline.specs.Steps.{refuse, choose, by-prk}
+use Rattle.guideline.specs.Forms.{refuse, choose}
+use Rattle.guideline.specs.Steps.{by-prk}
 use Rattle.cells.specs.Lents.{shown}
 use Rattle.tables.specs.Tests.{test641}
 use Rattle.tables.specs.declared.t641.Test641.the-variants.{Hpk}
-use Rattle.selection.proofs.Told.{found-641}
+use Rattle.tables.proofs.Found.{found-641}
 use Rattle.selection.proofs.level.of_hpk.Statement.{statement}
 use Rattle.selection.proofs.level.of_hpk.Tie as tie
 

@@ -1,0 +1,184 @@
+-- P4: "With the setting off the other eight numbers are as before." Below is the check as it stood before P4: step 9 ends with its signal, and 125 looks at
+-- no setting after months. With quiet off or not given the check answers what it did (`as-before`), and nothing is suppressed (`nothing-suppressed`).
+use Prim.Native.Nat.{ℕ, suc, _≤_, _<_}
+use mathlib.Core.Path.{_≡_, refl, sym, _∙_, ap, ap₂, fun-ext}
+use mathlib.Core.Bool.{Bool, true, false, cond, not, _&&_, _||_, and-true}
+use native.Mathlib.Nat.{le-refl, le-trans, le-of-lt}
+use borrow.Author.Tests.{eqb-true}
+use lib.Dec.{T, eqb, leb, ltb, lit≤, le→leb, lt→ltb}
+use Rattle.guideline.specs.Types.{Switch, NotGiven, Position, Prescription, Entry, Answer, T640, T641, T642, T643, T649, T730, Ending, Refusal, Asks, Ends, Reached, Ratio, Context, Selected}
+use Rattle.guideline.specs.Values.{within, codes, off, switched, setting-entered}
+use Rattle.guideline.specs.Ask.{Plan, Done, Step, _>>=_, _>>_, at, Outcome, Chosen, Refused, run}
+use Rattle.guideline.specs.Table.{Table, some, among}
+use Rattle.guideline.specs.Rows.{Row, keyed, Tables}
+use Rattle.guideline.specs.Entries.{datum, datum-in-range, each, switch-in-range, setting-in-range, dose-in-range, units-in-range, prescription-in-range, in-range}
+use Rattle.guideline.specs.Order.{line, place}
+use Rattle.guideline.specs.Forms.{when, refuse}
+use Rattle.guideline.specs.Quiet.{may-suppress, suppresses}
+use Rattle.guideline.specs.Steps.{sound, ratio, product, person, level, setting, few, by-age, exact, twin, signal, no-frequency, by-frequency, by-weight, by-surface, one-row, of-rows, dose-row, limits-of, comparison, nothing, to-basis, to-category, to-rule, selection, Verdict, over-sound, plan}
+use Rattle.guideline.specs.Check.{outcome, answer, check}
+use Rattle.guideline.proofs.AllRefusals.{refusals, all, of-every-refusal}
+use Rattle.guideline.proofs.Rise.{Rises, rises-done, rises-stop, rises-ask, rises-when}
+use Rattle.guideline.proofs.Steady.{sound-rises, ratio-rises, product-rises, person-rises, level-rises, setting-rises, few-rises, by-age-rises, stands-rises, by-weight-rises, by-surface-rises, one-row-rises, limits-of-rises}
+use Rattle.guideline.proofs.Holds.{Holds, holds-done, holds-stop, holds-ask, holds-bind, holds-then, run-holds, Comes}
+
+-- the twelve steps with any step 9
+abbrev pub StepNine : Type 0
+StepNine = Prescription → Context → Table (Row T643) → Step (Table (Row T643))
+
+unfoldable pub rows-with : StepNine → Prescription → Context → Table (Row T643) → Step (Row T643)
+rows-with nine e c t = do
+  few t
+  a ← by-age (c .age) t
+  f ← nine e c a
+  w ← by-weight f
+  s ← by-surface w
+  one-row s
+
+unfoldable pub plan-with : StepNine → Tables → Prescription → Plan Reached Verdict
+plan-with nine t e =
+    at nothing (sound t) >> do
+      q ← at nothing (ratio (t .rows T730) e)
+      s ← selected q
+      Done (record { compared = comparison e s; reached = to-rule (s .context) (s .row) })
+  where
+    selected : Ratio → Plan Reached Selected
+    selected q = do
+      p ← at nothing (product (t .rows T640) (e .gpk))
+      age ← at nothing (person p)
+      l ← at nothing (level (t .rows T641) (e .gpk))
+      s ← at (to-basis l) (setting (t .rows T642) (setting-entered e) (l .gpdbas))
+      let c : Context = record { ratio = q; product = p; age = age; level = l; setting = s }
+      x ← at (to-category c) (rows-with nine e c (among (keyed T643 (c .setting .gpdcat)) (t .rows T643)))
+      m ← at (to-rule c x) (limits-of (t .rows T649) (x .gpddnr))
+      Done (record { context = c; row = x; limits = m })
+
+plan-is : (t : Tables) (e : Prescription) → plan t e ≡ plan-with (by-frequency (t .rows T649)) t e
+unfolding plan over-sound selection dose-row of-rows plan-with rows-with
+plan-is t e = refl
+
+-- step 9 before P4: "None: 115 .., else 116 .., else 117"
+unfoldable pub frequency-before : StepNine
+frequency-before e c t =
+    when (some (t (exact e))) (Done (among (exact e) t))
+    (when (some (t (twin e))) (Done (among (twin e) t)) (refuse (Ending.NoFrequency (signal e t))))
+
+-- 125 before P4
+unfoldable pub in-range-before : Entry → Bool
+in-range-before e =
+    (within codes (e .rest .gpk)
+    && (setting-in-range (e .rest)
+    && (dose-in-range (e .rest) && (units-in-range (e .rest) && switch-in-range (e .rest .months)))))
+    && each (λ x. datum-in-range x (datum (e .known) x))
+
+unfoldable pub outcome-before : Tables → Entry → Outcome Reached Verdict
+outcome-before t e =
+    cond (in-range-before e) (run (datum (e .known)) (plan-with frequency-before t (e .rest))) (Refused (Ends Ending.EntryOutOfRange) nothing)
+
+unfoldable pub check-before : Tables → Entry → Answer
+check-before t e = answer (outcome-before t e)
+
+-- off, or not given
+abbrev pub Off : Switch → Type 0
+Off s = (switched s ≡ false) × (switch-in-range s ≡ true)
+
+pub not-given-is-off : Off NotGiven
+not-given-is-off = (refl, refl)
+
+pub off-is-off : Off (Position off)
+off-is-off = (refl, refl)
+
+module _ (e : Entry) (o : Off (e .rest .quiet)) where
+  same-frequency : (limits : Table (Row T649)) (c : Context) (t : Table (Row T643)) → by-frequency limits (e .rest) c t ≡ frequency-before (e .rest) c t
+  unfolding by-frequency no-frequency suppresses may-suppress frequency-before when _>>=_
+  same-frequency limits c t = rw (o .0)
+
+  same-range : in-range e ≡ in-range-before e
+  unfolding in-range in-range-before prescription-in-range
+  same-range = rw (o .1, and-true (switch-in-range (e .rest .months)))
+
+  -- step 9 is the only step that differs
+  same-plan : (t : Tables) → plan t (e .rest) ≡ plan-with frequency-before t (e .rest)
+  unfolding plan-with rows-with
+  same-plan t = plan-is t (e .rest) ∙ ap (λ (nine : Context → Table (Row T643) → Step (Table (Row T643))). plan-with (λ p. nine) t (e .rest)) (fun-ext (λ c. fun-ext (λ a. same-frequency (t .rows T649) c a)))
+
+  same-outcome : (t : Tables) → outcome t e ≡ outcome-before t e
+  unfolding outcome outcome-before
+  same-outcome t =
+      ap₂ (λ (b : Bool) (p : Plan Reached Verdict). cond b (run (datum (e .known)) p) (Refused (Ends Ending.EntryOutOfRange) nothing)) same-range (same-plan t)
+
+  pub as-before : (t : Tables) → check t e ≡ check-before t e
+  unfolding check check-before
+  as-before t = ap answer (same-outcome t)
+
+-- no test of the check as it was suppresses a signal: those that do stand between 903 and 906
+abbrev Calm : {G : Type 0} → Refusal → G → Type 0
+Calm r g = line r .suppressed ≡ 0
+
+abbrev Whatever : {A : Type 0} → A → Type 0
+Whatever a = Unit {0}
+
+abbrev calm-between : ℕ → ℕ → Refusal → Bool
+calm-between lo hi r = not (leb lo (place r) && ltb (place r) hi) || eqb (line r .suppressed) 0
+
+calm-place : (lo hi : ℕ) → T (all (calm-between lo hi) refusals) → (r : Refusal) → lo ≤ place r → place r < hi → line r .suppressed ≡ 0
+calm-place lo hi c r l m =
+    go (leb lo (place r)) (ltb (place r) hi) (eqb (line r .suppressed) 0) refl (le→leb lo (place r) l) (lt→ltb (place r) hi m) (of-every-refusal (calm-between lo hi) c r)
+  where
+    go : (p q b : Bool) → eqb (line r .suppressed) 0 ≡ b → T p → T q → T (not (p && q) || b) → line r .suppressed ≡ 0
+    go true true true e _ _ k = eqb-true (line r .suppressed) 0 e
+
+calm-rises : {A : Type 0} {lo hi : ℕ} {p : Step A} → Rises lo hi p → ((r : Refusal) → lo ≤ place r → place r < hi → line r .suppressed ≡ 0) → Holds Calm Whatever p
+calm-rises (rises-done h) m = holds-done tt
+calm-rises (rises-stop {r = r} h h′) m = holds-stop (m (Ends r) h h′)
+calm-rises (rises-ask {q = q} h h′ s) m =
+    holds-ask (m (Asks q) h h′) (λ n. calm-rises (s n) (λ r a b. m r (le-trans h (le-trans (le-of-lt (le-refl (suc (place (Asks q))))) a)) b))
+
+calm : {A : Type 0} {lo hi : ℕ} {p : Step A} → Rises lo hi p → T (all (calm-between lo hi) refusals) → Holds Calm Whatever p
+calm {A} {lo} {hi} r c = calm-rises r (calm-place lo hi c)
+
+calm-at : {G A : Type 0} (g : G) {p : Step A} → Holds Calm Whatever p → Holds Calm Whatever (at g p)
+unfolding at
+calm-at g (holds-done h) = holds-done h
+calm-at g (holds-stop h) = holds-stop h
+calm-at g (holds-ask h m) = holds-ask h (λ n. calm-at g (m n))
+
+frequency-calm : (e : Prescription) (c : Context) (t : Table (Row T643)) → Holds Calm Whatever (frequency-before e c t)
+unfolding frequency-before
+frequency-calm e c t =
+    calm {lo = 906} {hi = 1000} (rises-when _ (rises-done (lit≤ tt)) (rises-when _ (rises-done (lit≤ tt)) (stands-rises (signal e t)))) tt
+
+rows-calm : (e : Prescription) (c : Context) (t : Table (Row T643)) → Holds Calm Whatever (rows-with frequency-before e c t)
+unfolding rows-with
+rows-calm e c t =
+    holds-then (calm (few-rises t) tt) (λ _ _.
+    holds-bind (calm (by-age-rises (c .age) t) tt) (λ a _.
+    holds-bind (frequency-calm e c a) (λ f _.
+    holds-bind (calm (by-weight-rises f) tt) (λ w _.
+    holds-bind (calm (by-surface-rises w) tt) (λ s _. calm (one-row-rises s) tt)))))
+
+plan-calm : (t : Tables) (e : Prescription) → Holds Calm Whatever (plan-with frequency-before t e)
+unfolding plan-with
+plan-calm t e =
+    holds-then (calm-at nothing (calm (sound-rises t) tt)) (λ _ _.
+    holds-bind (calm-at nothing (calm (ratio-rises _ e) tt)) (λ q _.
+    holds-bind {Q = Whatever {A = Selected}}
+    (holds-bind (calm-at nothing (calm (product-rises _ _) tt)) (λ p _.
+    holds-bind (calm-at nothing (calm (person-rises p) tt)) (λ age _.
+    holds-bind (calm-at nothing (calm (level-rises _ _) tt)) (λ l _.
+    holds-bind (calm-at (to-basis l) (calm (setting-rises _ _ _) tt)) (λ s _.
+    holds-bind (calm-at _ (rows-calm e _ _)) (λ x _.
+    holds-bind (calm-at _ (calm (limits-of-rises _ _) tt)) (λ m _. holds-done tt)))))))
+    (λ s _. holds-done tt)))
+
+pub nothing-suppressed : (t : Tables) (e : Entry) → Off (e .rest .quiet) → check t e .suppressed ≡ 0
+unfolding check-before outcome-before
+nothing-suppressed t e o = ap (λ (a : Answer). a .suppressed) (as-before e o t) ∙ go (in-range-before e)
+  where
+    of-run : (u : Outcome Reached Verdict) → Comes Calm Whatever u → answer u .suppressed ≡ 0
+    of-run (Chosen v) k = refl
+    of-run (Refused r g) k = k
+
+    go : (b : Bool) → answer (cond b (run (datum (e .known)) (plan-with frequency-before t (e .rest))) (Refused (Ends Ending.EntryOutOfRange) nothing)) .suppressed ≡ 0
+    go true = of-run (run (datum (e .known)) (plan-with frequency-before t (e .rest))) (run-holds Calm Whatever (datum (e .known)) (plan-calm t (e .rest)))
+    go false = refl

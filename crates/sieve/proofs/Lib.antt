@@ -1,0 +1,4 @@
+pub mod Passed
+pub mod Joined
+pub mod Kept
+pub mod Frequencies
