@@ -57,19 +57,25 @@ fn written(first: u32, last: u32, length: usize) -> (Result<usize, u32>, Vec<u32
 
 #[test]
 fn what_is_behind_the_last_answer_stays() {
-    let answers = [[115, 24, 0, 1500, 33_784, 0, 0, 0], [100, 0, 0, 1500, 33_784, 1, 0, 0]].concat();
-    for length in [16, 17, 23, 24, 25, 512] {
+    let answers = [[115, 24, 0, 1500, 33_784, 0, 0, 0, 0], [100, 0, 0, 1500, 33_784, 1, 0, 0, 0]].concat();
+    for length in [18, 19, 26, 27, 28, 512] {
         let (result, list) = written(1, 2, length);
-        assert_eq!((result, &list[..16]), (Ok(2), &answers[..]));
-        assert!(list[16..].iter().all(|number| *number == 7), "{length}");
+        assert_eq!((result, &list[..18]), (Ok(2), &answers[..]));
+        assert!(list[18..].iter().all(|number| *number == 7), "{length}");
     }
 }
 
 #[test]
 fn a_refusal_writes_nothing() {
-    for (first, last, length, refusal) in
-        [(2, 1, 64, 131), (1, 17, 512, 131), (0, u32::MAX, 512, 131), (1, 2, 15, 132), (1, 2, 8, 132), (1, 1, 7, 132)]
-    {
+    for (first, last, length, refusal) in [
+        (2, 1, 64, 131),
+        (1, 17, 512, 131),
+        (0, u32::MAX, 512, 131),
+        (1, 2, 17, 132),
+        (1, 2, 16, 132),
+        (1, 2, 9, 132),
+        (1, 1, 8, 132),
+    ] {
         assert_eq!(written(first, last, length), (Err(refusal), vec![7; length]), "{first} to {last}");
     }
 }

@@ -31,18 +31,18 @@ const SURFACE: [&str; 5] = [
     "1:8 499:8 500:none 501:none 9997:none 9998:9 9999:9",
 ];
 
-/// The eight numbers; K stands for the basis and the category. Rows of other counts are there for every age, so that an
+/// The nine numbers; K stands for the basis and the category. Rows of other counts are there for every age, so that an
 /// age without a row lacks the count.
 fn numbers(of: Bounded, gets: &str) -> String {
     let numbers = match (gets, of) {
-        ("none", Bounded::Age) => "115 24 0 K K 0 0 0",
-        ("none", Bounded::Weight) => "118 14 0 K K 0 0 0",
-        ("none", Bounded::Surface) => "119 15 0 K K 0 0 0",
-        ("several", _) => "123 0 643 K K 0 0 0",
-        ("asked", Bounded::Age) => "101 12 0 0 0 0 0 0",
-        ("asked", Bounded::Weight) => "105 10 0 K K 0 0 0",
-        ("asked", Bounded::Surface) => "106 11 0 K K 0 0 0",
-        (row, _) => &format!("100 0 0 K K {} 0 0", KEY + row.parse::<u64>().expect("a row")),
+        ("none", Bounded::Age) => "115 24 0 K K 0 0 0 0",
+        ("none", Bounded::Weight) => "118 14 0 K K 0 0 0 0",
+        ("none", Bounded::Surface) => "119 15 0 K K 0 0 0 0",
+        ("several", _) => "123 0 643 K K 0 0 0 0",
+        ("asked", Bounded::Age) => "101 12 0 0 0 0 0 0 0",
+        ("asked", Bounded::Weight) => "105 10 0 K K 0 0 0 0",
+        ("asked", Bounded::Surface) => "106 11 0 K K 0 0 0 0",
+        (row, _) => &format!("100 0 0 K K {} 0 0 0", KEY + row.parse::<u64>().expect("a row")),
     };
     numbers.replace('K', &KEY.to_string())
 }

@@ -10,6 +10,7 @@ use cases::generate::proof_table::{with_months, K};
 use cases::run::cover::{Coverage, Seen};
 use cases::run::{answers_of, exchange, store, STANDARD_CASES, STANDARD_SEED};
 use second::check::entry::{BLANK, COUNT, MONTHS, MONTHS_OFF, TIME_UNIT};
+use second::check::NUMBERS;
 use second::stream::{answers::ANSWERS, counts::COUNTS, run, Program};
 
 /// Whether two units that stand beside each other are twins: with months on, off and not given, in the single check and
@@ -49,22 +50,22 @@ const OTHER_RANGES: [(&str, &str, &str); 6] = [
     ("132", "132", "132"),
 ];
 
-/// The eight numbers; K stands for the basis and the category.
+/// The nine numbers; K stands for the basis and the category.
 fn line(gets: &str, key: u32) -> String {
     let numbers = match gets {
-        "r1" => "100 1 0 K K 7000001 1 0",
-        "r2" => "100 0 0 K K 7000002 0 0",
-        "105" => "105 10 0 K K 0 0 0",
-        "106" => "106 11 0 K K 0 0 0",
-        "115" => "115 24 0 K K 0 0 0",
-        "116" => "116 25 0 K K 0 0 0",
-        "117" => "117 8 0 K K 0 0 0",
-        "118" => "118 14 0 K K 0 0 0",
-        "119" => "119 15 0 K K 0 0 0",
-        "123" => "123 0 643 K K 0 0 0",
-        "124" => "124 0 649 K K 7000003 0 0",
-        "twice" => "123 0 649 K K 7000004 0 0",
-        "125" => "125 0 0 0 0 0 0 0",
+        "r1" => "100 1 0 K K 7000001 1 0 0",
+        "r2" => "100 0 0 K K 7000002 0 0 0",
+        "105" => "105 10 0 K K 0 0 0 0",
+        "106" => "106 11 0 K K 0 0 0 0",
+        "115" => "115 24 0 K K 0 0 0 0",
+        "116" => "116 25 0 K K 0 0 0 0",
+        "117" => "117 8 0 K K 0 0 0 0",
+        "118" => "118 14 0 K K 0 0 0 0",
+        "119" => "119 15 0 K K 0 0 0 0",
+        "123" => "123 0 643 K K 0 0 0 0",
+        "124" => "124 0 649 K K 7000003 0 0 0",
+        "twice" => "123 0 649 K K 7000004 0 0 0",
+        "125" => "125 0 0 0 0 0 0 0 0",
         refusal => refusal,
     };
     numbers.replace('K', &key.to_string())
@@ -104,7 +105,7 @@ fn each_setting_in_the_single_check() {
                 }
             }
             let (entry, last) = given.next().expect("a setting out of range");
-            assert_eq!((entry[MONTHS], &last[..]), (NO_SETTING, "125 0 0 0 0 0 0 0"));
+            assert_eq!((entry[MONTHS], &last[..]), (NO_SETTING, "125 0 0 0 0 0 0 0 0"));
             assert!(given.next().is_none());
         }
     }
@@ -135,7 +136,7 @@ fn each_setting_in_a_range() {
 /// Its rows are per day, which has no twin, and 46 is never one.
 #[test]
 fn the_proof_table_needs_no_setting() {
-    let line = |numbers: [u32; 8]| numbers.map(|number| number.to_string()).join(" ");
+    let line = |numbers: [u32; NUMBERS]| numbers.map(|number| number.to_string()).join(" ");
     for setting in [MONTHS_OFF, BLANK] {
         let case = with_months(setting);
         assert!(case.entries.iter().all(|entry| entry[MONTHS] == setting));
@@ -145,7 +146,7 @@ fn the_proof_table_needs_no_setting() {
     }
 }
 
-fn numbers(case: &Case) -> Vec<[u32; 8]> {
+fn numbers(case: &Case) -> Vec<[u32; NUMBERS]> {
     answers_of(case).iter().map(|answer| answer.numbers).collect()
 }
 

@@ -20,7 +20,7 @@ fn line(case: &Case, entry: Numbers) -> String {
 }
 
 #[test]
-fn k1_to_k15_with_all_eight_numbers() {
+fn k1_to_k15_with_all_nine_numbers() {
     let answers = lines(&k_case());
     assert_eq!(answers.len(), K.len());
     for ((name, _, expected), answer) in K.iter().zip(answers) {
@@ -109,9 +109,9 @@ fn thirty_drops_are_exactly_one_and_a_half_millilitre() {
         entry[WEIGHT] = 60_000;
         line(&case, entry)
     };
-    assert_eq!(drops(30_000, 30_000), "100 0 0 1500 33784 2 0 0");
-    assert_eq!(drops(30_000, 30_001), "100 1 0 1500 33784 2 1 0");
-    assert_eq!(drops(29_999, 30_000), "100 2 0 1500 33784 2 0 1");
+    assert_eq!(drops(30_000, 30_000), "100 0 0 1500 33784 2 0 0 0");
+    assert_eq!(drops(30_000, 30_001), "100 1 0 1500 33784 2 1 0 0");
+    assert_eq!(drops(29_999, 30_000), "100 2 0 1500 33784 2 0 1 0");
 }
 
 #[test]
@@ -119,8 +119,8 @@ fn gpk_53015_has_st_twice() {
     let case = with_004();
     let as_entered = converted(GPK_KIND, 53_015, ST, MG, 2_000, 2_000);
     let as_base = converted(GPK_KIND, 53_015, MG, ST, 2_000, 2_000);
-    assert_eq!(line(&case, as_entered), "123 0 730 0 0 0 0 0");
-    assert_eq!(line(&case, as_base), "123 0 730 0 0 0 0 0");
+    assert_eq!(line(&case, as_entered), "123 0 730 0 0 0 0 0 0");
+    assert_eq!(line(&case, as_base), "123 0 730 0 0 0 0 0 0");
     let other_units = converted(GPK_KIND, 53_015, UG, MG, 2_000, 2_000);
     assert!(line(&case, other_units).starts_with("100 "));
 }
@@ -132,22 +132,22 @@ fn a_third_of_a_millilitre_is_not_rounded() {
     let mut third = converted(HPK_KIND, 709_050, ML, ST, 1_000, 1_000);
     third[WEIGHT] = 60_000;
     case.rows(Table::T649).row(1)[2] = 333;
-    assert_eq!(line(&case, third), "100 1 0 1500 33784 2 1 0");
+    assert_eq!(line(&case, third), "100 1 0 1500 33784 2 1 0 0");
     case.rows(Table::T649).row(1)[2] = 334;
-    assert_eq!(line(&case, third), "100 0 0 1500 33784 2 0 0");
+    assert_eq!(line(&case, third), "100 0 0 1500 33784 2 0 0 0");
     case.rows(Table::T649).row(1)[1] = 334;
-    assert_eq!(line(&case, third), "100 2 0 1500 33784 2 0 1");
+    assert_eq!(line(&case, third), "100 2 0 1500 33784 2 0 1 0");
 }
 
 #[test]
 fn units_of_004_convert_where_both_rows_stand_once() {
     let case = with_004();
     // 400 MG of ibuprofen is 1 ST: 800 MG equal K1's norm maximum of 2,000 ST thousandths.
-    assert_eq!(line(&case, converted(HPK_KIND, 1_709_925, MG, ST, 800_000, 800_000)), "100 0 0 1500 33784 1 0 0");
-    assert_eq!(line(&case, converted(HPK_KIND, 1_709_925, MG, ST, 800_001, 800_001)), "100 1 0 1500 33784 1 1 0");
+    assert_eq!(line(&case, converted(HPK_KIND, 1_709_925, MG, ST, 800_000, 800_000)), "100 0 0 1500 33784 1 0 0 0");
+    assert_eq!(line(&case, converted(HPK_KIND, 1_709_925, MG, ST, 800_001, 800_001)), "100 1 0 1500 33784 1 1 0 0");
     // The PRK of Haldol has no DR row, and rows of another SRTCDE do not serve.
-    assert_eq!(line(&case, converted(PRK_KIND, 5_541, DR, ML, 1, 1)), "126 0 730 0 0 0 0 0");
-    assert_eq!(line(&case, converted(HPK_KIND, 5_541, MG, ML, 1, 1)), "126 0 730 0 0 0 0 0");
+    assert_eq!(line(&case, converted(PRK_KIND, 5_541, DR, ML, 1, 1)), "126 0 730 0 0 0 0 0 0");
+    assert_eq!(line(&case, converted(HPK_KIND, 5_541, MG, ML, 1, 1)), "126 0 730 0 0 0 0 0 0");
 }
 
 const EXAMPLE: &[u8; 64] = b"073001850000001002162670000000200000002000303                   ";
@@ -292,7 +292,7 @@ fn a_case_is_whole_or_broken() {
     let mut case = tables();
     case.entries = vec![k1()];
     let bytes = case.bytes();
-    let answer = "100 0 0 1500 33784 1 0 0\n";
+    let answer = "100 0 0 1500 33784 1 0 0 0\n";
     assert_eq!(stream(b""), "");
     assert_eq!(stream(&bytes), answer);
     assert_eq!(stream(&[0; 28]), "");
@@ -302,7 +302,7 @@ fn a_case_is_whole_or_broken() {
     }
     let room = second::stream::CASE_MOST as usize - bytes.len();
     case.rows(Table::T730).tail = vec![7; room];
-    assert_eq!(stream(&case.bytes()), "121 0 730 0 0 0 0 0\n");
+    assert_eq!(stream(&case.bytes()), "121 0 730 0 0 0 0 0 0\n");
     case.rows(Table::T730).tail.push(7);
     assert_eq!(stream(&case.bytes()), "broken\n");
 }

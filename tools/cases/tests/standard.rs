@@ -81,8 +81,8 @@ fn the_stored_files_are_these_vectors() {
     let (stdin, stdout) = store::stream(&STORED);
     assert!(file("answers/stdin") == stdin && file("answers/stdout") == stdout, "run tools/store-cases");
     assert!(stdin.starts_with(&proof_table::with(&proof_table::K[..proof_table::BEFORE_P1]).bytes()));
-    let later = [store::key_cases(), store::p1_cases(), store::p3_cases()].concat().len();
-    assert!(STORED.len() == store::CASES + later && store::CASES >= 3_000 && stdin.len() < 5_100_000);
+    let later = [store::key_cases(), store::p1_cases(), store::p3_cases(), store::p4_cases()].concat().len();
+    assert!(STORED.len() == store::CASES + later && store::CASES >= 3_000 && stdin.len() < 5_300_000);
     let units = store::unit_input();
     assert!(file("unit_list/stdin").starts_with(&units), "run tools/store-cases");
     assert!(file("unit_list/stdout").starts_with(&unit_list(&units)), "run tools/store-cases");
@@ -99,7 +99,8 @@ fn the_stored_ranges_are_these_vectors() {
     let (stdin, stdout) = store_counts::stream(&cases);
     assert!(file("counts/stdin") == stdin && file("counts/stdout") == stdout, "run tools/store-cases");
     assert!(stdin.starts_with(&proof_ranges::k_1_to_3().bytes()) && stdout.ends_with(b"\nbroken\n"));
-    assert!(cases.len() == store_counts::CASES + store_counts::p3_cases().len() && stdin.len() < 400_000);
+    let later = store_counts::p3_cases().len() + store_counts::p4_cases().len();
+    assert!(cases.len() == store_counts::CASES + later && stdin.len() < 500_000);
     let mut lines = vec![];
     run(&COUNTS, &stdin[..], &mut lines).expect("a slice is read and a vector written");
     assert!(lines == stdout);
@@ -136,9 +137,9 @@ fn full_categories_are_stored() {
         seen.push((of_category.len(), of_category.iter().filter(fits).count(), rises, alone, stored[0]));
     }
     let (all, one, long) = (
-        format!("123 0 643 {key} {key} 0 0 0"),
-        format!("100 0 0 {key} {key} {key} 0 0"),
-        format!("120 0 643 {key} {key} 0 0 0"),
+        format!("123 0 643 {key} {key} 0 0 0 0"),
+        format!("100 0 0 {key} {key} {key} 0 0 0"),
+        format!("120 0 643 {key} {key} 0 0 0 0"),
     );
     let mut expected = vec![];
     for (rises, alone) in [(true, true), (false, false), (true, false)] {
@@ -154,7 +155,7 @@ fn full_categories_are_stored() {
 fn every_wrong_search_is_told() {
     assert_eq!(searches::run(STANDARD_SEED, STANDARD_CASES / 5).untold(), []);
     let mut stored = Searches::new();
-    store::key_cases().iter().for_each(|case| stored.tell(case, 0));
+    store::key_cases().iter().chain(&store::p4_cases()).for_each(|case| stored.tell(case, 0));
     assert_eq!(stored.untold(), []);
 }
 
@@ -225,7 +226,7 @@ fn told(of: &str, name: &str, filter: &str) -> (String, usize) {
 }
 
 /// A weight outside all rows needs a row of each of four tables, and an entry.
-const FOUR_ROWS: usize = 28 + 12 + 20 + 24 + 40 + 80;
+const FOUR_ROWS: usize = 28 + 12 + 20 + 24 + 40 + 84;
 
 #[test]
 fn a_wrong_check_is_told_by_a_small_case() {
@@ -237,12 +238,12 @@ fn a_wrong_check_is_told_by_a_small_case() {
     assert_eq!(told("answers", "more-lines", "sed '/^118 14 /p'").1, FOUR_ROWS);
     let (what, _) = told("answers", "bad-end", "awk '{ print } /^118 14 / { exit 3 }'");
     assert!(what.contains("ended with exit status: 3"), "{what}");
-    assert_eq!(told("answers", "nothing", "cat >/dev/null").1, 28 + 80);
+    assert_eq!(told("answers", "nothing", "cat >/dev/null").1, 28 + 84);
     assert!(comparison(&room("no-program"), "answers", "no such program").is_err());
 }
 
 /// A range of no places, or of no count, needs no row.
-const NO_ROW: usize = 28 + 92;
+const NO_ROW: usize = 28 + 96;
 
 #[test]
 fn a_wrong_range_is_told_by_a_small_case() {
@@ -279,6 +280,7 @@ fn demand_3_holds_and_a_wrong_question_is_told() {
     for (of, bytes) in [("answers", FOUR_ROWS), ("counts", FOUR_ROWS + 12)] {
         let judged = demand3::run(of, &program(of), 5, 0..2_000, &report).expect("demand 3");
         assert!(judged.fillings_of_the_question > 1_000 && judged.fillings_of_other_answers > 1_000, "{judged:?}");
+        assert!(judged.fillings_of_step_9 > 500, "{judged:?}");
         let wrong = |name: &str, filter: &str| wrong(of, &format!("{of}-{name}"), filter);
         let wrong_question = wrong("wrong-question", "sed 's/^105 10 /106 11 /'");
         let what = demand3::run(of, &wrong_question, 5, 0..2_000, &report).expect_err("a wrong question");

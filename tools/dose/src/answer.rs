@@ -1,10 +1,11 @@
-//! A line of a proved program: the eight numbers of an answer, held to what document 01 lets them be, or 131.
+//! A line of a proved program: the nine numbers of an answer, held to what documents 01 and 02 let them be, or 131.
 
 use crate::range::Range;
 use crate::words;
 
-/// Document 01's names of the eight numbers.
-pub const NAMES: [&str; 8] = ["answer", "text", "table", "basis", "category", "rule", "high", "low"];
+/// Document 01's names of its eight numbers, and the signal that was suppressed (P4).
+pub const NAMES: [&str; 9] =
+    ["answer", "text", "table", "basis", "category", "rule", "high", "low", "suppressed"];
 
 const HIGHEST_HIGH: u32 = 2;
 const HIGHEST_LOW: u32 = 1;
@@ -19,6 +20,8 @@ pub struct Answer {
     pub rule: u32,
     pub high: u32,
     pub low: u32,
+    /// The signal that was suppressed, 0 if none.
+    pub suppressed: u32,
 }
 
 impl Answer {
@@ -26,8 +29,8 @@ impl Answer {
     pub fn read(line: &str) -> Result<Answer, String> {
         let numbers: Option<Vec<u32>> = line.split(' ').map(number).collect();
         let numbers = numbers.and_then(|numbers| <[u32; NAMES.len()]>::try_from(numbers).ok());
-        let Some([answer, text, table, basis, category, rule, high, low]) = numbers else {
-            return Err(format!("`{line}` is not eight numbers"));
+        let Some([answer, text, table, basis, category, rule, high, low, suppressed]) = numbers else {
+            return Err(format!("`{line}` is not nine numbers"));
         };
         if words::of(answer).is_none() {
             return Err(format!("`{line}`: document 01 has no answer {answer}"));
@@ -35,7 +38,21 @@ impl Answer {
         if high > HIGHEST_HIGH || low > HIGHEST_LOW {
             return Err(format!("`{line}`: high is at most {HIGHEST_HIGH} and low at most {HIGHEST_LOW}"));
         }
-        Ok(Answer { answer, text, table, basis, category, rule, high, low })
+        let answer = Answer { answer, text, table, basis, category, rule, high, low, suppressed };
+        if suppressed != 0 && !answer.is_of_suppression() {
+            return Err(format!("`{line}`: this is no answer with a suppressed signal, by document 02, P4"));
+        }
+        Ok(answer)
+    }
+
+    /// Whether the numbers are those of a suppressed signal: 100, where basis and category alone are filled.
+    fn is_of_suppression(&self) -> bool {
+        let empty = [self.text, self.table, self.rule, self.high, self.low];
+        words::COMPARED == self.answer
+            && words::FREQUENCY_SIGNALS.contains(&self.suppressed)
+            && empty.iter().all(|&number| number == 0)
+            && self.basis != 0
+            && self.category != 0
     }
 
     /// Reads the line of a range that must be refused. 131 comes alone: the other numbers are not reached, so 0.
@@ -48,7 +65,8 @@ impl Answer {
     }
 
     pub fn numbers(&self) -> [u32; NAMES.len()] {
-        [self.answer, self.text, self.table, self.basis, self.category, self.rule, self.high, self.low]
+        let Answer { answer, text, table, basis, category, rule, high, low, suppressed } = *self;
+        [answer, text, table, basis, category, rule, high, low, suppressed]
     }
 }
 

@@ -65,8 +65,12 @@ fn read(line: &str, due: &Due) -> Result<Answer, String> {
     if line == "broken" {
         return Err("it says `broken`: it did not take the tables and entries it was sent".to_string());
     }
-    match due.what {
-        What::Answer | What::AnswerOf(_) => Answer::read(line),
-        What::Refusal(range) => Answer::read_refusal(line, range),
+    let answer = match due.what {
+        What::Answer | What::AnswerOf(_) => Answer::read(line)?,
+        What::Refusal(range) => Answer::read_refusal(line, range)?,
+    };
+    if answer.suppressed != 0 && !due.is_quiet {
+        return Err(format!("`{line}`: a signal is suppressed, and the entry does not say quiet on"));
     }
+    Ok(answer)
 }

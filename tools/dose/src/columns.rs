@@ -1,4 +1,5 @@
-//! Document 01's fields in their order, under their names. The only place that knows which field stands where.
+//! Document 01's fields in their order, under their names, then those of document 02. The only place that knows which
+//! field stands where.
 
 /// What a cell of a column may hold.
 #[derive(Clone, Copy, PartialEq)]
@@ -11,13 +12,20 @@ pub enum Content {
     NumberOrBlank,
     /// A whole number of 32 bits, or a range of two: count.
     NumberOrRange,
-    /// `on`, `off` or blank: months.
+    /// `on`, `off` or blank: months and quiet.
     OnOffOrBlank,
 }
 
 pub struct Column {
     pub name: &'static str,
     pub content: Content,
+}
+
+impl Column {
+    /// Files from before P4 have no column quiet: it is then not given in any row. Such a column must be the last.
+    pub fn may_be_absent(&self) -> bool {
+        self.name == QUIET
+    }
 }
 
 pub struct Table {
@@ -109,9 +117,11 @@ pub const ENTRY: &[Column] = &[
     number("SRTCDE"),
     number("CODE"),
     on_off("months"),
+    on_off(QUIET),
 ];
 
-// The fields that the front itself reads, to show the limits and the counts.
+// The fields that the front itself reads: to show the limits and the counts, and to know where a signal may be
+// suppressed.
 pub const LIMITS: &str = "649.csv";
 pub const RULE: &str = "GPDDNR";
 pub const NORM_MINIMUM: &str = "norm minimum";
@@ -119,3 +129,4 @@ pub const NORM_MAXIMUM: &str = "norm maximum";
 pub const ABSOLUTE_MAXIMUM: &str = "absolute maximum";
 pub const BASE_UNIT: &str = "base unit";
 pub const COUNT: &str = "count";
+pub const QUIET: &str = "quiet";

@@ -1,6 +1,8 @@
 //! The lines that the proved programs owe for the entries. The entries alone say which: so a line too few, too many
 //! or of another kind is known as such.
 
+use crate::columns::QUIET;
+use crate::number::ON;
 use crate::range::Range;
 use crate::sheet::Sheet;
 
@@ -8,6 +10,8 @@ use crate::sheet::Sheet;
 pub struct Due {
     /// The entry, by its place in the file.
     pub row: usize,
+    /// Whether the entry says quiet on: only then may a signal be suppressed (P4).
+    pub is_quiet: bool,
     pub what: What,
 }
 
@@ -23,11 +27,14 @@ pub enum What {
 /// In the order of the entries; the counts of a range rise.
 pub fn of(entries: &Sheet) -> Vec<Due> {
     let mut due = Vec::with_capacity(entries.len());
+    let quiet = entries.place(QUIET);
     for (row, range) in entries.ranges().iter().enumerate() {
+        let is_quiet = entries.row(row)[quiet] == ON;
+        let one = |what| Due { row, is_quiet, what };
         match *range {
-            None => due.push(Due { row, what: What::Answer }),
-            Some(range) if range.is_refused() => due.push(Due { row, what: What::Refusal(range) }),
-            Some(range) => due.extend(range.counts().map(|count| Due { row, what: What::AnswerOf(count) })),
+            None => due.push(one(What::Answer)),
+            Some(range) if range.is_refused() => due.push(one(What::Refusal(range))),
+            Some(range) => due.extend(range.counts().map(|count| one(What::AnswerOf(count)))),
         }
     }
     due

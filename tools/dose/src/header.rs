@@ -36,8 +36,13 @@ impl Header<'_> {
         }
     }
 
+    /// Whether the column of this place stands in the header, wherever.
+    fn has(&self, place: usize) -> bool {
+        self.found.contains(&self.columns[place].name)
+    }
+
     fn missing(&self) -> Vec<String> {
-        let absent = |&place: &usize| !self.found.contains(&self.columns[place].name);
+        let absent = |&place: &usize| !self.has(place) && !self.columns[place].may_be_absent();
         let say = |place: usize| format!("{} is missing: {}", self.columns[place].name, self.expected(place));
         (0..self.columns.len()).filter(absent).map(say).collect()
     }
@@ -51,6 +56,9 @@ impl Header<'_> {
             let shown = if name.is_empty() { "a column without a name" } else { name };
             let position = place + self.first;
             faults.push(match self.columns.get(place) {
+                Some(column) if column.may_be_absent() => {
+                    format!("{shown} is extra: column {position} may only be {}", column.name)
+                }
                 Some(column) => format!("{shown} is extra: column {position} must be {}", column.name),
                 None => format!("{shown} is extra: there must be no column {position}"),
             });
@@ -71,7 +79,8 @@ impl Header<'_> {
     }
 
     fn exchanged(&self) -> Vec<String> {
-        let differs = |&place: &usize| self.found.get(place) != Some(&self.columns[place].name);
+        let differs =
+            |&place: &usize| self.has(place) && self.found.get(place) != Some(&self.columns[place].name);
         let say = |place| format!("columns are exchanged: {}", self.expected(place));
         (0..self.columns.len()).filter(differs).map(say).collect()
     }

@@ -1,5 +1,6 @@
 //! The limits of a rule, from table 649, to be shown beside the answer.
 
+use crate::answer::Answer;
 use crate::columns::{ABSOLUTE_MAXIMUM, NORM_MAXIMUM, NORM_MINIMUM, RULE};
 use crate::sheet::Sheet;
 use std::collections::HashMap;
@@ -21,12 +22,16 @@ impl Limits {
         Limits(rules)
     }
 
-    /// The limits of the rule in words; rule 0 is none reached.
-    pub fn sentence(&self, rule: u32, base_unit: u64) -> String {
-        if rule == 0 {
+    /// The limits of the answer's rule in words; rule 0 is none reached.
+    pub fn sentence(&self, answer: &Answer, base_unit: u64) -> String {
+        if answer.suppressed != 0 {
+            // limits were looked at (P4), perhaps those of several rules
+            return "limits: no rule was chosen".to_string();
+        }
+        if answer.rule == 0 {
             return "limits not reached".to_string();
         }
-        match self.0.get(&u64::from(rule)).map(Vec::as_slice) {
+        match self.0.get(&u64::from(answer.rule)).map(Vec::as_slice) {
             Some([limits]) => {
                 let parts: Vec<String> = SHOWN
                     .iter()

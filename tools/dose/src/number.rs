@@ -6,7 +6,7 @@ use crate::range::Range;
 /// The number that stands for blank, or for a setting not given.
 pub const BLANK: u64 = u32::MAX as u64;
 const OFF: u64 = 0;
-const ON: u64 = 1;
+pub const ON: u64 = 1;
 
 pub enum Value {
     Number(u64),
@@ -22,7 +22,7 @@ pub fn read(cell: &str, content: Content) -> Result<Value, String> {
         Content::Wide => filled(cell).and_then(wide),
         Content::NumberOrBlank if cell.is_empty() => Ok(BLANK),
         Content::NumberOrBlank => narrow(cell),
-        // no default for months here: P3 gives one count and a range different ones, and the programs have them
+        // no default here: P3 gives one count and a range different ones for months, and the programs have them all
         Content::OnOffOrBlank => match cell {
             "" => Ok(BLANK),
             "on" => Ok(ON),

@@ -10,7 +10,7 @@ use crate::words;
 use std::io::{self, Write};
 
 /// One line for each entry, or for each count of its range: answer in words, text, limits, basis, category, rule,
-/// high, low. A refused range has one line, and 131 has no other numbers.
+/// high, low. A suppressed signal is said in the words. A refused range has one line, and 131 has no other numbers.
 pub fn readable(out: &mut dyn Write, entries: &Sheet, lines: &[Line], limits: &Limits) -> io::Result<()> {
     let base_unit = entries.place(BASE_UNIT);
     for Line { due, answer } in lines {
@@ -18,7 +18,7 @@ pub fn readable(out: &mut dyn Write, entries: &Sheet, lines: &[Line], limits: &L
         let label = entries.label(due.row);
         let said = match due.what {
             What::Refusal(_) => format!("{} {}", answer.answer, words::RANGE_REFUSED_MEANS),
-            _ => sentence(answer, &limits.sentence(answer.rule, entries.row(due.row)[base_unit])),
+            _ => sentence(answer, &limits.sentence(answer, entries.row(due.row)[base_unit])),
         };
         match due.what {
             What::Answer => writeln!(out, "{line}{label}: {said}"),
@@ -43,7 +43,7 @@ fn sentence(answer: &Answer, limits: &str) -> String {
     )
 }
 
-/// A header, then for each line the name or line of its entry and the eight numbers. If some entry has a range,
+/// A header, then for each line the name or line of its entry and the nine numbers. If some entry has a range,
 /// all lines have their count between the two.
 pub fn csv(out: &mut dyn Write, entries: &Sheet, lines: &[Line]) -> io::Result<()> {
     let has_count = entries.has_ranges();

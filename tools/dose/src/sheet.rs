@@ -2,7 +2,7 @@
 
 use crate::columns::{Column, NAME};
 use crate::failure::Fault;
-use crate::number::Value;
+use crate::number::{Value, BLANK};
 use crate::range::Range;
 use crate::{csv, header, number};
 use std::borrow::Cow;
@@ -70,7 +70,7 @@ pub fn read(path: &Path, columns: &'static [Column], names: Names) -> Result<She
     })?;
     let sheet =
         Sheet { columns, numbers: Vec::new(), labels: Vec::new(), ranges: Vec::new(), is_named: false };
-    let mut reader = Reader { file: &file, sheet, faults: Vec::new() };
+    let mut reader = Reader { file: &file, sheet, width: columns.len(), faults: Vec::new() };
     reader.header(lines.first().unwrap_or(&""), names);
     if reader.faults.is_empty() {
         for (i, line) in lines.iter().enumerate().skip(1) {
@@ -87,6 +87,8 @@ pub fn read(path: &Path, columns: &'static [Column], names: Names) -> Result<She
 struct Reader<'a> {
     file: &'a str,
     sheet: Sheet,
+    /// How many of the columns stand in the file: the last may be absent.
+    width: usize,
     faults: Vec<Fault>,
 }
 
@@ -104,6 +106,7 @@ impl Reader<'_> {
         if self.sheet.is_named {
             found.remove(0);
         }
+        self.width = found.len();
         let faults = header::faults(self.sheet.columns, &found, 1 + self.before());
         self.faults.extend(faults.into_iter().map(|what| Fault::of_line(self.file, 1, what)));
     }
@@ -136,6 +139,9 @@ impl Reader<'_> {
                 Err(what) => self.faults.push(Fault::of_field(self.file, line, &self.field(place), what)),
             }
         }
+        for _absent in self.width..self.sheet.columns.len() {
+            self.sheet.numbers.push(BLANK);
+        }
         if self.sheet.is_named && cells[0].is_empty() {
             self.faults.push(Fault::of_field(self.file, line, NAME, "the cell is blank".to_string()));
         }
@@ -148,14 +154,14 @@ impl Reader<'_> {
         if place < self.before() {
             return NAME.to_string();
         }
-        match self.sheet.columns.get(place - self.before()) {
+        match self.sheet.columns[..self.width].get(place - self.before()) {
             Some(column) => column.name.to_string(),
             None => format!("column {}", place + 1),
         }
     }
 
     fn wrong_count(&self, cells: &[Cow<str>]) -> Option<String> {
-        let wanted = self.sheet.columns.len() + self.before();
+        let wanted = self.width + self.before();
         if cells.len() == wanted {
             return None;
         }

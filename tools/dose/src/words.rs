@@ -1,8 +1,12 @@
-//! Document 01's table of answers, in words, and document 02's refusal of a range.
+//! Document 01's table of answers, in words, and what document 02 adds: the refusal of a range and the suppressed
+//! signal.
 
 use crate::answer::Answer;
+use std::ops::RangeInclusive;
 
-const COMPARED: u32 = 100;
+pub const COMPARED: u32 = 100;
+/// The signals of a missing frequency, which quiet may suppress (P4).
+pub const FREQUENCY_SIGNALS: RangeInclusive<u32> = 115..=117;
 
 /// The refusal of a whole range of counts (P2). It is no answer of a check.
 pub const RANGE_REFUSED: u32 = 131;
@@ -43,6 +47,9 @@ pub fn of(answer: u32) -> Option<&'static str> {
 
 /// The answer in words, with the table it names and what a comparison found.
 pub fn sentence(answer: &Answer) -> String {
+    if answer.suppressed != 0 {
+        return suppression(answer.suppressed);
+    }
     let mut said = of(answer.answer).unwrap_or("unknown").to_string();
     if answer.table != 0 {
         said += &format!(" (table {})", answer.table);
@@ -57,4 +64,13 @@ pub fn sentence(answer: &Answer) -> String {
         said += if answer.high == 0 && answer.low == 0 { ", neither high nor low" } else { "" };
     }
     said
+}
+
+/// Not `compared, neither high nor low`: no rule was chosen, and only norm maxima were looked at.
+fn suppression(signal: u32) -> String {
+    format!(
+        "no signal: {signal} ({}) is suppressed, since quiet is on and a fitting rule per day allows more by its \
+         norm maximum, at a time and in a day",
+        of(signal).unwrap_or("unknown")
+    )
 }

@@ -125,7 +125,7 @@ const UNITS_AFTER: [u8; 4] = [0x2F, 0x01, 0, 0]; // 303
 
 /// A number of the first of the sample's 22 entries, which end the stream.
 fn entry_number(heard: &[u8], place: usize) -> [u8; 4] {
-    let start = heard.len() - 22 * 20 * 4 + place * 4;
+    let start = heard.len() - 22 * 21 * 4 + place * 4;
     heard[start..start + 4].try_into().unwrap()
 }
 

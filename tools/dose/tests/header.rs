@@ -70,6 +70,7 @@ fn an_extra_column() {
             header.insert(place, "colour".to_string());
             let said = match names.get(place) {
                 Some(name) => format!("colour is extra: column {} must be {name}", place + 1),
+                None if file == ENTRIES => format!("colour is extra: column {} may only be quiet", place + 1),
                 None => format!("colour is extra: there must be no column {}", place + 1),
             };
             refused(&room, file, &header, &[&said]);

@@ -10,7 +10,7 @@ const OFF: u32 = 0;
 const PLACES: u32 = 16;
 /// Behind the lengths of the six tables stands the number of entries.
 const ENTRIES_AT: usize = 24;
-const COMPARED: &str = "100 0 0 1500 33784 1 0 0\n";
+const COMPARED: &str = "100 0 0 1500 33784 1 0 0 0\n";
 
 #[test]
 fn a_setting_goes_out_as_it_is_written() {
@@ -68,7 +68,7 @@ const RANGED: [([u32; 5], u32); 6] = [
 
 fn entry([gpk, count, unit, dose, months]: [u32; 5]) -> Vec<u32> {
     let patient = [BLANK, BLANK, 480, BLANK, BLANK, BLANK, 3, 0, 0, 0];
-    [&[gpk], &patient[..], &[count, unit, dose, dose, 245, 245, 0, 0, months]].concat()
+    [&[gpk], &patient[..], &[count, unit, dose, dose, 245, 245, 0, 0, months, BLANK]].concat()
 }
 
 fn bytes(entries: &[Vec<u32>]) -> Vec<u8> {

@@ -17,7 +17,7 @@ fn too_few_and_too_many_lines() {
     let short = lines.lines().take(21).map(|line| format!("{line}\n")).collect::<String>();
     fails(&room, &short, "wrote 21 lines for 22 entries");
     fails(&room, "", "wrote 0 lines for 22 entries");
-    fails(&room, &format!("{lines}100 0 0 0 0 0 0 0\n"), "line 23 of the program");
+    fails(&room, &format!("{lines}100 0 0 0 0 0 0 0 0\n"), "line 23 of the program");
     fails(&room, lines.trim_end(), "ended inside a line");
 }
 
@@ -25,24 +25,24 @@ fn too_few_and_too_many_lines() {
 fn lines_that_are_no_answer() {
     let room = Room::new("lines_that_are_no_answer");
     fails(&room, "broken\n", "it says `broken`");
-    fails(&room, "100 0 0 0 0 0 0 0\nbroken\n", "line 2 of the program");
+    fails(&room, "100 0 0 0 0 0 0 0 0\nbroken\n", "line 2 of the program");
     let bad = [
         "",
         "100 0 0 0 0 0 0",
-        "100 0 0 0 0 0 0 0 0",
+        "100 0 0 0 0 0 0 0 0 0",
         "100  0 0 0 0 0 0 0",
-        "100 0 0 0 0 0 0 0 ",
-        "100 0 0 0 0 0 0 x",
+        "100 0 0 0 0 0 0 0 0 ",
+        "100 0 0 0 0 0 0 0 x",
         "100 0 0 0 0 0 0 +1",
-        "100 0 0 0 0 0 0 0\r",
-        "100 0 0 0 0 4294967296 0 0",
+        "100 0 0 0 0 0 0 0 0\r",
+        "100 0 0 0 0 4294967296 0 0 0",
         "100,0,0,0,0,0,0,0",
     ];
     for line in bad {
-        fails(&room, &format!("{line}\n"), "is not eight numbers");
+        fails(&room, &format!("{line}\n"), "is not nine numbers");
     }
-    fails(&room, "100 0 0 0 0 0 3 0\n", "high is at most 2");
-    fails(&room, "100 0 0 0 0 0 0 2\n", "low at most 1");
+    fails(&room, "100 0 0 0 0 0 3 0 0\n", "high is at most 2");
+    fails(&room, "100 0 0 0 0 0 0 2 0\n", "low at most 1");
 }
 
 #[test]

@@ -2,7 +2,7 @@
 //! programs: `DOSE_ANSWERS=... DOSE_COUNTS=... DOSE_UNIT_LIST=... cargo test -- --include-ignored`.
 
 mod common;
-use common::{months, ran, ranges, sample, SAMPLE};
+use common::{months, quiet, ran, ranges, sample, SAMPLE};
 use std::process::Command;
 
 /// The front with these words and the programs that the variables name, each by its option.
@@ -49,6 +49,15 @@ fn months_against_weeks() {
     let programs = [ANSWERS, COUNTS];
     assert_eq!(said(&["check", &tables, &entries], &programs), months("expected.txt"));
     assert_eq!(said(&["check", &tables, &entries, "--csv"], &programs), months("expected.csv"));
+}
+
+#[test]
+#[ignore = "needs the proved programs: set DOSE_ANSWERS and DOSE_COUNTS"]
+fn quiet_on_a_missing_frequency() {
+    let entries = format!("{SAMPLE}/quiet/entries.csv");
+    let programs = [ANSWERS, COUNTS];
+    assert_eq!(said(&["check", TABLES, &entries], &programs), quiet("expected.txt"));
+    assert_eq!(said(&["check", TABLES, &entries, "--csv"], &programs), quiet("expected.csv"));
 }
 
 #[test]

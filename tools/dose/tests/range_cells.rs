@@ -76,14 +76,14 @@ fn heard_of(room: &Room, count: &str, says: &str) -> [u32; 4] {
     assert_eq!((ran.status, ran.complained.as_str()), (0, ""), "{count}");
     assert!(room.heard().is_none(), "{count}: a range went to the program of single counts");
     let heard = room.counts_heard().unwrap();
-    let entry = &heard[heard.len() - 23 * 4..];
-    [11, 20, 21, 22].map(|place| u32::from_le_bytes(entry[4 * place..4 * place + 4].try_into().unwrap()))
+    let entry = &heard[heard.len() - 24 * 4..];
+    [11, 21, 22, 23].map(|place| u32::from_le_bytes(entry[4 * place..4 * place + 4].try_into().unwrap()))
 }
 
 #[test]
 fn what_can_be_read_goes_to_the_program() {
     let room = Room::new("ranges_that_can_be_read");
-    let out_of_range = "125 0 0 0 0 0 0 0\n";
+    let out_of_range = "125 0 0 0 0 0 0 0 0\n";
     let top = u32::MAX - 1;
     let ranges = [
         ("1-3".to_string(), 1, 3, 3),

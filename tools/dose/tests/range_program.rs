@@ -4,8 +4,8 @@
 mod common;
 use common::{k1_with, ran, Room, ENTRIES, FAKE, FAKE_COUNTS};
 
-const COMPARED: &str = "100 0 0 1500 33784 1 0 0";
-const DIFFERS: &str = "115 24 0 1500 33784 0 0 0";
+const COMPARED: &str = "100 0 0 1500 33784 1 0 0 0";
+const DIFFERS: &str = "115 24 0 1500 33784 0 0 0 0";
 /// The lines that are due, in the order of the entries with a range.
 const SOUND: [&str; 5] = [DIFFERS, COMPARED, DIFFERS, "131", COMPARED];
 
@@ -59,7 +59,7 @@ fn too_few_and_too_many_lines() {
 #[test]
 fn answers_where_131_is_due() {
     let room = room("answers_where_131_is_due");
-    let lines = [DIFFERS, "131 0 0 0 0 0 0 0", "132", "0131", "+131", "131 ", " 131", "131\r", "", "125"];
+    let lines = [DIFFERS, "131 0 0 0 0 0 0 0 0", "132", "0131", "+131", "131 ", " 131", "131\r", "", "125"];
     for line in lines {
         fails_at(&room, 4, line, "is not 131, which the range 3-1 must get");
     }
@@ -72,8 +72,8 @@ fn a_refusal_where_answers_are_due() {
     let room = room("a_refusal_where_answers_are_due");
     for place in [1, 2, 3, 5] {
         for refusal in ["131", "132"] {
-            fails_at(&room, place, refusal, "is not eight numbers");
-            fails_at(&room, place, &format!("{refusal} 0 0 0 0 0 0 0"), "document 01 has no answer");
+            fails_at(&room, place, refusal, "is not nine numbers");
+            fails_at(&room, place, &format!("{refusal} 0 0 0 0 0 0 0 0"), "document 01 has no answer");
         }
     }
     fails(&room, &joined(&["131", "131", COMPARED]), "line 1 of the program");
@@ -85,9 +85,9 @@ fn lines_that_are_no_answer() {
     for place in 1..=SOUND.len() {
         fails_at(&room, place, "broken", "it says `broken`");
     }
-    fails_at(&room, 2, "100 0 0 1500 33784 1 0", "is not eight numbers");
-    fails_at(&room, 2, "100 0 0 1500 33784 1 0 0 0", "is not eight numbers");
-    fails_at(&room, 2, "100 0 0 1500 33784 1 3 0", "high is at most 2");
+    fails_at(&room, 2, "100 0 0 1500 33784 1 0 0", "is not nine numbers");
+    fails_at(&room, 2, "100 0 0 1500 33784 1 0 0 0 0", "is not nine numbers");
+    fails_at(&room, 2, "100 0 0 1500 33784 1 3 0 0", "high is at most 2");
 }
 
 #[test]
@@ -96,7 +96,7 @@ fn one_count_never_gets_131() {
     room.fake_says("131\n");
     let ran = room.check(&[]);
     assert_eq!((ran.status, ran.said.as_str()), (1, ""));
-    assert!(ran.complained.contains("`131` is not eight numbers"), "{}", ran.complained);
+    assert!(ran.complained.contains("`131` is not nine numbers"), "{}", ran.complained);
 }
 
 #[test]

@@ -92,14 +92,14 @@ fn entries_without_names_are_called_by_their_line() {
     assert_eq!(lines[46], "line 17, counts 3-1: 131 first count above the last, or over 16 counts");
     let csv = room.check(&["--csv"]).said;
     assert!(
-        csv.starts_with("line,count,answer,text,table,basis,category,rule,high,low\n2,2,100,0,"),
+        csv.starts_with("line,count,answer,text,table,basis,category,rule,high,low,suppressed\n2,2,100,0,"),
         "{csv}"
     );
-    assert!(csv.contains("\n3,3,115,24,0,1500,33784,0,0,0\n"), "{csv}");
-    assert!(csv.contains("\n17,,131,0,0,0,0,0,0,0\n"), "{csv}");
+    assert!(csv.contains("\n3,3,115,24,0,1500,33784,0,0,0,0\n"), "{csv}");
+    assert!(csv.contains("\n17,,131,0,0,0,0,0,0,0,0\n"), "{csv}");
 }
 
-const COMPARED: &str = "100 0 0 1500 33784 1 0 0\n";
+const COMPARED: &str = "100 0 0 1500 33784 1 0 0 0\n";
 
 #[test]
 fn a_program_is_needed_only_for_its_entries() {

@@ -94,9 +94,9 @@ fn entries_without_names_are_called_by_their_line() {
         assert_eq!(line, format!("line {}: {}", i + 2, expected.split_once(": ").unwrap().1));
     }
     let csv = room.check(&["--csv"]).said;
-    assert!(
-        csv.starts_with("line,answer,text,table,basis,category,rule,high,low\n2,100,0,0,1500,33784,1,0,0\n")
-    );
+    assert!(csv.starts_with(
+        "line,answer,text,table,basis,category,rule,high,low,suppressed\n2,100,0,0,1500,33784,1,0,0,0\n"
+    ));
     assert_eq!(csv.lines().count(), 1 + CHANGES.len());
 }
 
@@ -106,7 +106,7 @@ fn a_name_keeps_its_comma_and_quotes() {
     let entries = sample(ENTRIES).replace("\nK1,", "\n\"bed 3, \"\"left\"\"\",");
     room.write(ENTRIES, entries);
     assert!(room.check(&[]).said.starts_with("bed 3, \"left\": 100 compared"));
-    assert!(room.check(&["--csv"]).said.contains("\n\"bed 3, \"\"left\"\"\",100,0,0,1500,33784,1,0,0\n"));
+    assert!(room.check(&["--csv"]).said.contains("\n\"bed 3, \"\"left\"\"\",100,0,0,1500,33784,1,0,0,0\n"));
 }
 
 #[test]
@@ -114,7 +114,10 @@ fn no_entries() {
     let room = Room::new("no_entries");
     room.write(ENTRIES, sample(ENTRIES).lines().next().unwrap());
     let ran = room.check(&["--csv"]);
-    assert_eq!((ran.status, ran.said.as_str()), (0, "name,answer,text,table,basis,category,rule,high,low\n"));
+    assert_eq!(
+        (ran.status, ran.said.as_str()),
+        (0, "name,answer,text,table,basis,category,rule,high,low,suppressed\n")
+    );
     assert!(ran.complained.contains("has no entries"));
     assert!(room.heard().is_none());
 }

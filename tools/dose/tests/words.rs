@@ -55,7 +55,7 @@ fn every_answer() {
     for (answer, meaning) in MEANINGS {
         let rest = "text 77; limits not reached; basis 0; category 0; rule 0; high 0; low 0\n";
         assert_eq!(
-            said(&room, &format!("{answer} 77 0 0 0 0 0 0")),
+            said(&room, &format!("{answer} 77 0 0 0 0 0 0 0")),
             format!("K1: {answer} {meaning}; {rest}")
         );
     }
@@ -65,7 +65,7 @@ fn every_answer() {
 fn no_other_answer() {
     let room = one_entry("no_other_answer");
     for number in (0..300).filter(|number| MEANINGS.iter().all(|(answer, _)| answer != number)) {
-        room.fake_says(&format!("{number} 0 0 0 0 0 0 0\n"));
+        room.fake_says(&format!("{number} 0 0 0 0 0 0 0 0\n"));
         let ran = room.check(&[]);
         assert_eq!((ran.status, ran.said.as_str()), (1, ""), "{number}");
         assert!(ran.complained.contains(&format!("document 01 has no answer {number}")));
@@ -76,7 +76,7 @@ fn no_other_answer() {
 fn the_table_of_a_refusal() {
     let room = one_entry("the_table_of_a_refusal");
     for table in [640, 641, 642, 643, 649, 730] {
-        let line = said(&room, &format!("122 0 {table} 0 0 0 0 0"));
+        let line = said(&room, &format!("122 0 {table} 0 0 0 0 0 0"));
         assert!(line.starts_with(&format!("K1: 122 field out of range (table {table}); text 0;")), "{line}");
     }
 }
@@ -95,7 +95,7 @@ fn high_and_low() {
         ((2, 1), format!("{}{low}", high[1])),
     ];
     for ((high, low), words) in found {
-        let line = said(&room, &format!("100 0 0 1500 33784 1 {high} {low}"));
+        let line = said(&room, &format!("100 0 0 1500 33784 1 {high} {low} 0"));
         assert!(line.starts_with(&format!("K1: 100 compared{words}; text 0; ")), "{line}");
         assert!(line.ends_with(&format!("; rule 1; high {high}; low {low}\n")), "{line}");
     }
@@ -114,7 +114,7 @@ fn limits_are_those_of_the_rule_in_649() {
         (0, "limits not reached;"),
     ];
     for (rule, words) in limits {
-        let line = said(&room, &format!("100 0 0 1500 33784 {rule} 0 0"));
+        let line = said(&room, &format!("100 0 0 1500 33784 {rule} 0 0 0"));
         assert!(line.contains(&format!("; text 0; {words} basis 1500;")), "{line}");
     }
 }
@@ -124,5 +124,5 @@ fn the_unit_is_the_base_unit() {
     let room = one_entry("the_unit_is_the_base_unit");
     let entry = "K1,103136,,,240,,75000,,3,0,0,0,2,19,2000,2000,303,245,1,216267,on";
     room.write(ENTRIES, format!("{}\n{entry}\n", sample(ENTRIES).lines().next().unwrap()));
-    assert!(said(&room, "100 0 0 1500 33784 1 0 0").contains("limits in unit 245: norm minimum 0.500"));
+    assert!(said(&room, "100 0 0 1500 33784 1 0 0 0").contains("limits in unit 245: norm minimum 0.500"));
 }

@@ -1,8 +1,8 @@
 //! The large case: six tables of 20,000 rows, in which every entry goes through all twelve steps to 100.
 
-use cases::generate::case::{Case, Numbers};
+use cases::generate::case::{push_numbers, Case, Numbers};
 use cases::random::Random;
-use second::check::entry::{BLANK, MONTHS_ON};
+use second::check::entry::{BLANK, CARE, MONTHS_ON, QUIET};
 use second::check::Table::{T640, T641, T642, T643, T649, T730};
 
 const ROWS: u64 = 20_000;
@@ -17,6 +17,20 @@ pub fn sorted(entries: u32) -> Case {
     let mut case = tables();
     case.entries = (0..entries).map(entry).collect();
     case
+}
+
+/// Each entry is out of range (125): it is read and its line is written, and nothing is looked for.
+pub fn refused(mut case: Case) -> Case {
+    case.entries.iter_mut().for_each(|entry| entry[CARE] = 0);
+    case
+}
+
+/// The case as it was before entries had a quiet setting (P4).
+pub fn bytes_before_p4(case: &Case) -> Vec<u8> {
+    let mut bytes = vec![];
+    case.write_front(&mut bytes);
+    case.entries.iter().for_each(|entry| push_numbers(&entry[..QUIET], &mut bytes));
+    bytes
 }
 
 /// The same rows in no order, so that the rows of a key stand far apart.
@@ -73,6 +87,6 @@ fn entry(n: u32) -> Numbers {
     let highest = 1_997 + n % 4;
     [
         gpk, prk, hpk, age, BLANK, weight, BLANK, care, reason, 0, route, count, 19, 1_997, highest, 233, 234, 3, code,
-        MONTHS_ON,
+        MONTHS_ON, BLANK,
     ]
 }

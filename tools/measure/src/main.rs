@@ -1,8 +1,9 @@
-//! What tools/measure-check, tools/measure-counts and tools/measure-before-after measure with.
+//! What tools/measure-check, tools/measure-counts, tools/measure-quiet and tools/measure-before-after measure with.
 
 mod counts;
 mod large;
 mod processor;
+mod quiet;
 
 use cases::generate::case::Case;
 use second::stream::{Header, HEADER};
@@ -12,9 +13,15 @@ use std::process::ExitCode;
 use std::time::Instant;
 
 const HELP: &str = "measure case sorted|spread ENTRIES   the large case on standard output
+measure case sorted|spread ENTRIES FIELDS
+                                     the same with quiet on, where an entry has 21 fields; or as it was with 20
+measure refused sorted|spread ENTRIES FIELDS
+                                     the same with entries that are all out of range (125)
 measure range sorted|spread          the large tables and one entry with the counts 1 to 16, for counts
 measure each sorted|spread           the same counts as the entries of one case, for answers
 measure single sorted|spread COUNT   one of them as the only entry of a case
+measure quiet sorted|spread ENTRIES on|off
+                                     a category of 512 rows per day on a full table 649, and entries that it misses
 measure read TIMES                   nanoseconds of one reading of the tables of the case on standard input
 measure processor INPUT OUTPUT PROGRAM
                                      microseconds of the processor for a run of the program";
@@ -25,6 +32,9 @@ fn main() -> ExitCode {
     let number = |word: &str| word.parse().unwrap_or(1);
     match words[..] {
         ["case", order, entries] => put(&large(order, number(entries)).bytes()),
+        ["case", order, entries, fields] => put(&of_fields(large(order, number(entries)), fields)),
+        ["refused", order, entries, fields] => put(&of_fields(large::refused(large(order, number(entries))), fields)),
+        ["quiet", order, entries, setting] => put(&quiet::category(order, number(entries), setting).bytes()),
         ["range", order] => put(&counts::range(large(order, SOME)).bytes()),
         ["each", order] => put(&counts::each(large(order, SOME)).bytes()),
         ["single", order, count] => put(&counts::single(large(order, SOME), number(count)).bytes()),
@@ -51,6 +61,14 @@ fn large(order: &str, entries: u32) -> Case {
         "sorted" => large::sorted(entries),
         "spread" => large::spread(entries),
         _ => panic!("{order}: sorted or spread"),
+    }
+}
+
+fn of_fields(case: Case, fields: &str) -> Vec<u8> {
+    match fields {
+        "20" => large::bytes_before_p4(&case),
+        "21" => quiet::on(case).bytes(),
+        _ => panic!("{fields}: 20 or 21 fields"),
     }
 }
 

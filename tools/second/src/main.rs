@@ -7,8 +7,8 @@ use std::process::ExitCode;
 
 const HELP: &str = "second: the dose check and file 730, written from the papers alone
 
-  second answers    cases on standard input, one line of eight numbers per entry
-  second counts     cases whose entries have a range of counts, one line of eight numbers per count, or 131 or 132
+  second answers    cases on standard input, one line of nine numbers per entry
+  second counts     cases whose entries have a range of counts, one line of nine numbers per count, or 131 or 132
   second units      the unit list of the records on standard input
   second calls      the calls of file 730 on standard input, one line for each
 ";

@@ -2,12 +2,15 @@
 
 use crate::random::Random;
 use second::check::cells::cell;
-use second::check::entry::FIELDS;
+use second::check::entry::{FIELDS, QUIET};
 use second::check::fields::CDHOEV;
 use second::check::Table;
 use second::stream::{numbers, parts, Header, ENTRY, HEADER};
 
 pub type Numbers = [u32; FIELDS];
+
+/// The fields that entries were made of before P4: quiet is put behind them.
+pub const MADE_FIELDS: usize = QUIET;
 
 #[derive(Clone)]
 pub struct Case {

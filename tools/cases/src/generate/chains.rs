@@ -2,7 +2,7 @@
 //! table, the last, between others, or absent below, between and above them.
 
 use super::case::{Case, Numbers};
-use super::order::{move_row, sort, Order};
+use super::order::{fall_as, sort, Order};
 use super::proof_table::changed;
 use super::space::{NO_UPPER, Q_GENERAL};
 use crate::random::Random;
@@ -109,15 +109,7 @@ pub fn search(table: Table, order: Order, several: u64) -> Case {
         case.entries.push(entry(&keys, converted));
     }
     case.tables.iter_mut().for_each(sort);
-    let rows = case.rows(table);
-    let last = rows.count() - 1;
-    match order {
-        Order::Rises => {}
-        Order::FallsAtFirst => move_row(rows, last, 0),
-        Order::FallsInside => move_row(rows, 0, last - 1),
-        Order::FallsAtLast => move_row(rows, 0, last),
-        Order::FallsOften => rows.cells = rows.cells.rchunks_exact(rows.width()).flatten().copied().collect(),
-    }
+    fall_as(case.rows(table), order);
     case
 }
 

@@ -15,6 +15,7 @@ pub mod order;
 mod plain;
 pub mod proof_ranges;
 pub mod proof_table;
+pub mod quiet;
 pub mod records;
 pub mod space;
 mod spread;
@@ -44,6 +45,7 @@ pub fn case(seed: u64, number: u64) -> Case {
         0 => {}
         place if FULL_CASES.contains(&place) => {
             full::add(&mut case, (place - FULL_CASES.start) as usize, &mut ordering(seed, number));
+            quiet::over_full(&mut case);
         }
         place if LONG_CASES.contains(&place) => long_in_order(&mut case, &mut ordering(seed, number)),
         _ => put_in_order(&mut case, &mut ordering(seed, number)),
@@ -60,8 +62,9 @@ pub fn light_case(seed: u64, number: u64) -> Case {
 
 /// The cases were made for rows that fit at both ends. In half of them the high ends that the first entry lies on are
 /// raised, so that it is found as before; in the others it lies on an end that does not count. A twelfth get rows that
-/// meet besides, and a twelfth rows of time units that stand beside each other. K1 to K15 and long tables, which may be
-/// full, are left alone.
+/// meet besides, and a twelfth rows of time units that stand beside each other. They were made without a quiet setting,
+/// so that each entry gets one; and a quarter get rows per day for entries whose frequency is missing. K1 to K15 and long
+/// tables, which may be full, are left alone.
 fn fitted(mut case: Case, seed: u64, number: u64) -> Case {
     let r = &mut Random::of_case(seed ^ 0x6669_7473, number);
     if number % ROUND <= *LONG_CASES.end() {
@@ -76,6 +79,15 @@ fn fitted(mut case: Case, seed: u64, number: u64) -> Case {
     let r = &mut Random::of_case(seed ^ 0x6d6f_6e74, number);
     if r.below(12) == 0 {
         months::add(&mut case, r);
+    }
+    let r = &mut Random::of_case(seed ^ 0x7175_6965, number);
+    quiet::set(&mut case.entries, r);
+    if r.percent(25) {
+        if r.percent(25) {
+            // Alone, so that its rules are the first and the last of 649.
+            case = Case::empty();
+        }
+        quiet::add(&mut case, r);
     }
     case
 }
@@ -135,7 +147,7 @@ fn light(r: &mut Random, number: u64) -> Case {
 mod tests {
     use super::*;
     use crate::run::answers_of;
-    use second::check::{check, Entry, Lent};
+    use second::check::{check, Entry, Lent, NUMBERS};
     use second::stream::{parts, Header, HEADER};
 
     /// The directed cases rest on this: a model is compared, where no end that does not count is met.
@@ -152,7 +164,7 @@ mod tests {
         }
     }
 
-    fn numbers(case: &Case) -> Vec<[u32; 8]> {
+    fn numbers(case: &Case) -> Vec<[u32; NUMBERS]> {
         answers_of(case).iter().map(|answer| answer.numbers).collect()
     }
 
@@ -174,8 +186,11 @@ mod tests {
     #[test]
     fn a_full_category_is_refused_or_compared() {
         let key = full::KEY as u32;
-        let expected =
-            [[123, 0, 643, key, key, 0, 0, 0], [100, 0, 0, key, key, key, 0, 0], [120, 0, 643, key, key, 0, 0, 0]];
+        let expected = [
+            [123, 0, 643, key, key, 0, 0, 0, 0],
+            [100, 0, 0, key, key, key, 0, 0, 0],
+            [120, 0, 643, key, key, 0, 0, 0, 0],
+        ];
         for seed in 0..20 {
             for number in FULL_CASES {
                 let answers = numbers(&case(seed, number));

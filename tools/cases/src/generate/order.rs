@@ -89,6 +89,18 @@ pub fn move_row(rows: &mut Rows, from: usize, to: usize) {
     put(rows, &places);
 }
 
+/// Rows that rise, put so that their keys fall where the order says.
+pub fn fall_as(rows: &mut Rows, order: Order) {
+    let last = rows.count() - 1;
+    match order {
+        Order::Rises => {}
+        Order::FallsAtFirst => move_row(rows, last, 0),
+        Order::FallsInside => move_row(rows, 0, last - 1),
+        Order::FallsAtLast => move_row(rows, 0, last),
+        Order::FallsOften => rows.cells = rows.cells.rchunks_exact(rows.width()).flatten().copied().collect(),
+    }
+}
+
 fn put(rows: &mut Rows, places: &[usize]) {
     let width = rows.width();
     rows.cells = places.iter().flat_map(|place| rows.cells[place * width..][..width].to_vec()).collect();

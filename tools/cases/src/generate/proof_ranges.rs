@@ -2,7 +2,7 @@
 
 use super::case::Numbers;
 use super::counts::{CountCase, Range};
-use super::proof_table::{changed, tables, with_months, K};
+use super::proof_table::{changed, tables, with_months, with_quiet, K, QUIET_K};
 use second::check::entry::*;
 use second::check::Table;
 
@@ -10,19 +10,19 @@ use second::check::Table;
 pub type KRange = (&'static str, &'static [(usize, u32)], [u32; 3], &'static [&'static str]);
 
 /// No row of the category has the count: the rows that pass the age are per day, so the unit is there.
-const COUNT_DIFFERS: &str = "115 24 0 1500 33784 0 0 0";
-const COUNT_DIFFERS_IN_CARE_2: &str = "115 24 0 1500 33790 0 0 0";
-const COUNT_DIFFERS_FOR_5000: &str = "115 24 0 1500 33785 0 0 0";
-const RULE_1: &str = "100 0 0 1500 33784 1 0 0";
-const RULE_1_HIGH_1: &str = "100 1 0 1500 33784 1 1 0";
-const RULE_1_HIGH_2: &str = "100 3 0 1500 33784 1 2 0";
-const RULE_5: &str = "100 0 0 1500 33790 5 0 0";
-const NO_WEIGHT: &str = "118 14 0 1500 33784 0 0 0";
-const BOTH_DIFFER: &str = "117 8 0 1500 33784 0 0 0";
-const OUT_OF_RANGE: &str = "125 0 0 0 0 0 0 0";
-const AGE_ASKED: &str = "101 12 0 0 0 0 0 0";
-const OTHER_SEX: &str = "112 7 0 0 0 0 0 0";
-const PRK_ASKED: &str = "104 16 0 0 0 0 0 0";
+const COUNT_DIFFERS: &str = "115 24 0 1500 33784 0 0 0 0";
+const COUNT_DIFFERS_IN_CARE_2: &str = "115 24 0 1500 33790 0 0 0 0";
+const COUNT_DIFFERS_FOR_5000: &str = "115 24 0 1500 33785 0 0 0 0";
+const RULE_1: &str = "100 0 0 1500 33784 1 0 0 0";
+const RULE_1_HIGH_1: &str = "100 1 0 1500 33784 1 1 0 0";
+const RULE_1_HIGH_2: &str = "100 3 0 1500 33784 1 2 0 0";
+const RULE_5: &str = "100 0 0 1500 33790 5 0 0 0";
+const NO_WEIGHT: &str = "118 14 0 1500 33784 0 0 0 0";
+const BOTH_DIFFER: &str = "117 8 0 1500 33784 0 0 0 0";
+const OUT_OF_RANGE: &str = "125 0 0 0 0 0 0 0 0";
+const AGE_ASKED: &str = "101 12 0 0 0 0 0 0 0";
+const OTHER_SEX: &str = "112 7 0 0 0 0 0 0 0";
+const PRK_ASKED: &str = "104 16 0 0 0 0 0 0 0";
 
 const K1_1_TO_3: [&str; 3] = [COUNT_DIFFERS, RULE_1, COUNT_DIFFERS];
 const CARE_2: [&str; 3] = [COUNT_DIFFERS_IN_CARE_2, RULE_5, COUNT_DIFFERS_IN_CARE_2];
@@ -33,8 +33,8 @@ pub const K_1_TO_3: [[&str; 3]; K.len()] = [
     [COUNT_DIFFERS, RULE_1_HIGH_1, COUNT_DIFFERS],
     [COUNT_DIFFERS, RULE_1_HIGH_1, COUNT_DIFFERS],
     [COUNT_DIFFERS, RULE_1_HIGH_2, COUNT_DIFFERS],
-    [COUNT_DIFFERS, "100 3 0 1500 33784 1 2 1", COUNT_DIFFERS],
-    [COUNT_DIFFERS, "105 10 0 1500 33784 0 0 0", COUNT_DIFFERS],
+    [COUNT_DIFFERS, "100 3 0 1500 33784 1 2 1 0", COUNT_DIFFERS],
+    [COUNT_DIFFERS, "105 10 0 1500 33784 0 0 0 0", COUNT_DIFFERS],
     K1_1_TO_3,
     [COUNT_DIFFERS, NO_WEIGHT, COUNT_DIFFERS],
     [AGE_ASKED; 3],
@@ -42,17 +42,44 @@ pub const K_1_TO_3: [[&str; 3]; K.len()] = [
     // K10: at 216 months the row of 1 per day has ended, and K1's rows have begun.
     K1_1_TO_3,
     K1_1_TO_3,
-    [BOTH_DIFFER, "116 25 0 1500 33784 0 0 0", BOTH_DIFFER],
-    [BOTH_DIFFER, "116 25 0 1500 33784 0 0 0", BOTH_DIFFER],
+    [BOTH_DIFFER, "116 25 0 1500 33784 0 0 0 0", BOTH_DIFFER],
+    [BOTH_DIFFER, "116 25 0 1500 33784 0 0 0 0", BOTH_DIFFER],
     [OTHER_SEX; 3],
     [PRK_ASKED; 3],
     CARE_2,
-    ["100 1 0 1500 33785 4 1 0", COUNT_DIFFERS_FOR_5000, COUNT_DIFFERS_FOR_5000],
+    ["100 1 0 1500 33785 4 1 0 0", COUNT_DIFFERS_FOR_5000, COUNT_DIFFERS_FOR_5000],
     K1_1_TO_3,
     CARE_2,
     CARE_2,
     CARE_2,
     [COUNT_DIFFERS, NO_WEIGHT, COUNT_DIFFERS],
+];
+
+const WEIGHT_ASKED: &str = "105 10 0 1500 33784 0 0 0 0";
+const RULE_2: &str = "100 0 0 1500 33784 2 0 0 0";
+const SUPPRESSED: &str = "100 0 0 1500 33784 0 0 0 115";
+const SUPPRESSED_IN_CARE_2: &str = "100 0 0 1500 33790 0 0 0 115";
+
+/// What each entry of `K` gets for 1, 2 and 3 with quiet on: K5 is asked at each count, and 1 and 3 times 2,000 are
+/// below what rule 5 allows, 4,000 twice a day. All else has a rule with a norm minimum, another unit or another setting.
+pub const K_1_TO_3_QUIETLY: [[&str; 3]; K.len()] = {
+    const CARE_2_QUIETLY: [&str; 3] = [SUPPRESSED_IN_CARE_2, RULE_5, SUPPRESSED_IN_CARE_2];
+    let mut all = K_1_TO_3;
+    all[5] = [WEIGHT_ASKED; 3];
+    (all[16], all[19], all[20], all[21]) = (CARE_2_QUIETLY, CARE_2_QUIETLY, CARE_2_QUIETLY, CARE_2_QUIETLY);
+    all
+};
+
+/// What each entry of `QUIET_K` gets for 1 to 4. Rule 2 allows 1,500 twice a day.
+pub const QUIET_1_TO_4: [[&str; 4]; QUIET_K.len()] = [
+    [D, RULE_1, D, D],
+    [SUPPRESSED, RULE_2, D, D],
+    [SUPPRESSED, RULE_2, SUPPRESSED, D],
+    [WEIGHT_ASKED; 4],
+    [D, WEIGHT_ASKED, D, D],
+    [D, NO_WEIGHT, D, D],
+    [SUPPRESSED_IN_CARE_2, RULE_5, SUPPRESSED_IN_CARE_2, COUNT_DIFFERS_IN_CARE_2],
+    [SUPPRESSED_IN_CARE_2, RULE_5, COUNT_DIFFERS_IN_CARE_2, COUNT_DIFFERS_IN_CARE_2],
 ];
 
 const NO_DOSE: &[(usize, u32)] = &[(LOWEST, 0)];
@@ -79,9 +106,9 @@ pub const RANGES: &[KRange] = &[
     ("the own count 4,294,967,295", &[(COUNT, BLANK)], [1, 3, 3], &K1_1_TO_3),
     ("an own count beside the range", &[(COUNT, 7)], [1, 3, 3], &K1_1_TO_3),
     // Below 216 months one row is left: 1 per day, rule 3, at most 1,500.
-    ("a child", &[(AGE, 215)], [1, 3, 3], &["100 3 0 1500 33784 3 2 0", D, D]),
-    ("no GPK", &[(GPK, 0)], [1, 3, 3], &["110 0 0 0 0 0 0 0"; 3]),
-    ("GPK not in 640", &[(GPK, 5)], [1, 2, 2], &["111 16 0 0 0 0 0 0"; 2]),
+    ("a child", &[(AGE, 215)], [1, 3, 3], &["100 3 0 1500 33784 3 2 0 0", D, D]),
+    ("no GPK", &[(GPK, 0)], [1, 3, 3], &["110 0 0 0 0 0 0 0 0"; 3]),
+    ("GPK not in 640", &[(GPK, 5)], [1, 2, 2], &["111 16 0 0 0 0 0 0 0"; 2]),
     ("no lowest dose", NO_DOSE, [1, 3, 3], &[OUT_OF_RANGE; 3]),
     ("3 to 2", &[], [3, 2, 64], &["131"]),
     ("3 to 1", &[], [3, 1, 64], &["131"]),
@@ -127,6 +154,16 @@ pub fn k_1_to_3_with_months(setting: u32) -> CountCase {
     CountCase { case: with_months(setting), ..k_1_to_3() }
 }
 
+/// The same with a quiet setting.
+pub fn k_1_to_3_with_quiet(setting: u32) -> CountCase {
+    CountCase { case: with_quiet(setting), ..k_1_to_3() }
+}
+
+/// The proof table with all entries of `QUIET_K`, each for 1 to 4.
+pub fn quiet_1_to_4() -> CountCase {
+    with(&QUIET_K.map(|k| changed(k.1)), vec![range([1, 4, 4]); QUIET_K.len()])
+}
+
 /// The proof table with all of `RANGES`.
 pub fn ranges() -> CountCase {
     let entries: Vec<Numbers> = RANGES.iter().map(|(_, changes, ..)| changed(changes)).collect();
@@ -147,7 +184,7 @@ pub fn over_bad_tables(number: u32) -> CountCase {
 /// The lines of `over_bad_tables`.
 pub fn lines_over_bad_tables(number: u32) -> Vec<String> {
     let table = if number == 121 { 649 } else { 640 };
-    let refused = format!("{number} 0 {table} 0 0 0 0 0");
+    let refused = format!("{number} 0 {table} 0 0 0 0 0 0");
     let mut lines = vec![refused.clone(); 3];
     lines.extend([OUT_OF_RANGE.to_string(), refused]);
     lines.extend(["131", "131", "132", "132"].map(str::to_string));

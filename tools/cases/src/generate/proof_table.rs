@@ -3,7 +3,7 @@
 
 use super::case::{Case, Numbers};
 use second::check::entry::*;
-use second::check::Table;
+use second::check::{Table, NUMBERS};
 
 const ROWS_640: [[u64; 3]; 2] = [[103_136, 3, 0], [900_001, 2, 1]];
 const ROWS_641: [[u64; 5]; 3] = [[103_136, 0, 0, 1, 1500], [900_001, 0, 0, 1, 1600], [900_001, 7001, 0, 2, 1601]];
@@ -31,7 +31,7 @@ pub fn tables() -> Case {
 
 pub fn k1() -> Numbers {
     let mut entry = [0; FIELDS];
-    for blank in [PRK, HPK, SEX, SURFACE] {
+    for blank in [PRK, HPK, SEX, SURFACE, QUIET] {
         entry[blank] = BLANK;
     }
     entry[GPK] = 103_136;
@@ -48,33 +48,62 @@ pub fn k1() -> Numbers {
     entry
 }
 
-/// A K case: its name, its changes from K1, and the eight numbers that it gets.
-pub type K = (&'static str, &'static [(usize, u32)], [u32; 8]);
+/// A K case: its name, its changes from K1, and the nine numbers that it gets.
+pub type K = (&'static str, &'static [(usize, u32)], [u32; NUMBERS]);
 
 pub const K: [K; 23] = [
-    ("K1", &[], [100, 0, 0, 1500, 33_784, 1, 0, 0]),
-    ("K2", &[(LOWEST, 2_001), (HIGHEST, 2_001)], [100, 1, 0, 1500, 33_784, 1, 1, 0]),
-    ("K3, 3,000", &[(LOWEST, 3_000), (HIGHEST, 3_000)], [100, 1, 0, 1500, 33_784, 1, 1, 0]),
-    ("K3, 3,001", &[(LOWEST, 3_001), (HIGHEST, 3_001)], [100, 3, 0, 1500, 33_784, 1, 2, 0]),
-    ("K4", &[(LOWEST, 499), (HIGHEST, 3_001)], [100, 3, 0, 1500, 33_784, 1, 2, 1]),
-    ("K5", &[(WEIGHT, BLANK)], [105, 10, 0, 1500, 33_784, 0, 0, 0]),
-    ("K6", &[(WEIGHT, 70_000)], [100, 0, 0, 1500, 33_784, 1, 0, 0]),
-    ("K7", &[(WEIGHT, 80_001)], [118, 14, 0, 1500, 33_784, 0, 0, 0]),
-    ("K8", &[(GPK, 900_001), (AGE, BLANK)], [101, 12, 0, 0, 0, 0, 0, 0]),
-    ("K9", &[(AGE, 1_080)], [100, 0, 0, 1500, 33_784, 1, 0, 0]),
-    ("K10", &[(AGE, 216), (COUNT, 1)], [115, 24, 0, 1500, 33_784, 0, 0, 0]),
-    ("K11, count", &[(COUNT, 3)], [115, 24, 0, 1500, 33_784, 0, 0, 0]),
-    ("K11, unit", &[(TIME_UNIT, 46)], [116, 25, 0, 1500, 33_784, 0, 0, 0]),
-    ("K11, both", &[(COUNT, 3), (TIME_UNIT, 46)], [117, 8, 0, 1500, 33_784, 0, 0, 0]),
-    ("K12, sex 1", &[(GPK, 900_001), (SEX, 1)], [112, 7, 0, 0, 0, 0, 0, 0]),
-    ("K12, sex 2", &[(GPK, 900_001), (SEX, 2)], [104, 16, 0, 0, 0, 0, 0, 0]),
-    ("K13", &[(CARE, 2), (WEIGHT, BLANK)], [100, 0, 0, 1500, 33_790, 5, 0, 0]),
-    ("K14", &[(REASON, 5_000), (COUNT, 1)], [100, 1, 0, 1500, 33_785, 4, 1, 0]),
-    ("K15, reason 6000", &[(REASON, 6_000)], [100, 0, 0, 1500, 33_784, 1, 0, 0]),
-    ("K15, care 2", &[(REASON, 5_000), (CARE, 2)], [100, 0, 0, 1500, 33_790, 5, 0, 0]),
-    ("K15, care 2, weight blank", &[(REASON, 5_000), (CARE, 2), (WEIGHT, BLANK)], [100, 0, 0, 1500, 33_790, 5, 0, 0]),
-    ("K13, weight known", &[(CARE, 2)], [100, 0, 0, 1500, 33_790, 5, 0, 0]),
-    ("P1, weight 80,000", &[(WEIGHT, 80_000)], [118, 14, 0, 1500, 33_784, 0, 0, 0]),
+    ("K1", &[], [100, 0, 0, 1500, 33_784, 1, 0, 0, 0]),
+    ("K2", &[(LOWEST, 2_001), (HIGHEST, 2_001)], [100, 1, 0, 1500, 33_784, 1, 1, 0, 0]),
+    ("K3, 3,000", &[(LOWEST, 3_000), (HIGHEST, 3_000)], [100, 1, 0, 1500, 33_784, 1, 1, 0, 0]),
+    ("K3, 3,001", &[(LOWEST, 3_001), (HIGHEST, 3_001)], [100, 3, 0, 1500, 33_784, 1, 2, 0, 0]),
+    ("K4", &[(LOWEST, 499), (HIGHEST, 3_001)], [100, 3, 0, 1500, 33_784, 1, 2, 1, 0]),
+    ("K5", &[(WEIGHT, BLANK)], [105, 10, 0, 1500, 33_784, 0, 0, 0, 0]),
+    ("K6", &[(WEIGHT, 70_000)], [100, 0, 0, 1500, 33_784, 1, 0, 0, 0]),
+    ("K7", &[(WEIGHT, 80_001)], [118, 14, 0, 1500, 33_784, 0, 0, 0, 0]),
+    ("K8", &[(GPK, 900_001), (AGE, BLANK)], [101, 12, 0, 0, 0, 0, 0, 0, 0]),
+    ("K9", &[(AGE, 1_080)], [100, 0, 0, 1500, 33_784, 1, 0, 0, 0]),
+    ("K10", &[(AGE, 216), (COUNT, 1)], [115, 24, 0, 1500, 33_784, 0, 0, 0, 0]),
+    ("K11, count", &[(COUNT, 3)], [115, 24, 0, 1500, 33_784, 0, 0, 0, 0]),
+    ("K11, unit", &[(TIME_UNIT, 46)], [116, 25, 0, 1500, 33_784, 0, 0, 0, 0]),
+    ("K11, both", &[(COUNT, 3), (TIME_UNIT, 46)], [117, 8, 0, 1500, 33_784, 0, 0, 0, 0]),
+    ("K12, sex 1", &[(GPK, 900_001), (SEX, 1)], [112, 7, 0, 0, 0, 0, 0, 0, 0]),
+    ("K12, sex 2", &[(GPK, 900_001), (SEX, 2)], [104, 16, 0, 0, 0, 0, 0, 0, 0]),
+    ("K13", &[(CARE, 2), (WEIGHT, BLANK)], [100, 0, 0, 1500, 33_790, 5, 0, 0, 0]),
+    ("K14", &[(REASON, 5_000), (COUNT, 1)], [100, 1, 0, 1500, 33_785, 4, 1, 0, 0]),
+    ("K15, reason 6000", &[(REASON, 6_000)], [100, 0, 0, 1500, 33_784, 1, 0, 0, 0]),
+    ("K15, care 2", &[(REASON, 5_000), (CARE, 2)], [100, 0, 0, 1500, 33_790, 5, 0, 0, 0]),
+    (
+        "K15, care 2, weight blank",
+        &[(REASON, 5_000), (CARE, 2), (WEIGHT, BLANK)],
+        [100, 0, 0, 1500, 33_790, 5, 0, 0, 0],
+    ),
+    ("K13, weight known", &[(CARE, 2)], [100, 0, 0, 1500, 33_790, 5, 0, 0, 0]),
+    ("P1, weight 80,000", &[(WEIGHT, 80_000)], [118, 14, 0, 1500, 33_784, 0, 0, 0, 0]),
+];
+
+const QUIETLY: (usize, u32) = (QUIET, QUIET_ON);
+const TIMES_3: (usize, u32) = (COUNT, 3);
+const NO_SIGNAL: [u32; NUMBERS] = [100, 0, 0, 1500, 33_784, 0, 0, 0, 115];
+const SIGNAL: [u32; NUMBERS] = [115, 24, 0, 1500, 33_784, 0, 0, 0, 0];
+
+/// P4 over the proof table: for 3 with quiet on, but for one of them.
+pub const QUIET_K: [K; 8] = [
+    ("weight 75,000", &[TIMES_3, QUIETLY], SIGNAL),
+    ("weight 60,000, dose 1,000", &[TIMES_3, QUIETLY, (WEIGHT, 60_000), (LOWEST, 1_000), (HIGHEST, 1_000)], SIGNAL),
+    ("weight 60,000, dose 999", &[TIMES_3, QUIETLY, (WEIGHT, 60_000), (LOWEST, 999), (HIGHEST, 999)], NO_SIGNAL),
+    ("weight blank", &[TIMES_3, QUIETLY, (WEIGHT, BLANK)], [105, 10, 0, 1500, 33_784, 0, 0, 0, 0]),
+    ("weight blank, quiet off", &[TIMES_3, (QUIET, QUIET_OFF), (WEIGHT, BLANK)], SIGNAL),
+    ("weight 80,000", &[TIMES_3, QUIETLY, (WEIGHT, 80_000)], SIGNAL),
+    (
+        "care 2, dose 2,666",
+        &[TIMES_3, QUIETLY, (CARE, 2), (WEIGHT, BLANK), (LOWEST, 2_666), (HIGHEST, 2_666)],
+        [100, 0, 0, 1500, 33_790, 0, 0, 0, 115],
+    ),
+    (
+        "care 2, dose 2,667",
+        &[TIMES_3, QUIETLY, (CARE, 2), (WEIGHT, BLANK), (LOWEST, 2_667), (HIGHEST, 2_667)],
+        [115, 24, 0, 1500, 33_790, 0, 0, 0, 0],
+    ),
 ];
 
 /// Those that were there before P1: what was stored then has no others.
@@ -97,6 +126,14 @@ pub fn k_case() -> Case {
 pub fn with_months(setting: u32) -> Case {
     let mut case = k_case();
     case.entries.iter_mut().for_each(|entry| entry[MONTHS] = setting);
+    case
+}
+
+/// The same with a quiet setting: where the frequency is missing the rule has a norm minimum, or the unit is not per
+/// day, so that the answers stay.
+pub fn with_quiet(setting: u32) -> Case {
+    let mut case = k_case();
+    case.entries.iter_mut().for_each(|entry| entry[QUIET] = setting);
     case
 }
 

@@ -1,6 +1,6 @@
 //! An entry beside another: one or two of its fields changed to a number that is near something in the tables.
 
-use super::case::{Case, Numbers};
+use super::case::{Case, Numbers, MADE_FIELDS};
 use super::space;
 use crate::random::Random;
 use second::check::entry::*;
@@ -31,7 +31,7 @@ fn near(r: &mut Random, number: u64) -> u64 {
 }
 
 fn change(case: &Case, r: &mut Random, entry: &mut Numbers) {
-    let place = r.below(FIELDS as u64) as usize;
+    let place = r.below(MADE_FIELDS as u64) as usize;
     entry[place] = match place {
         PRK | HPK | AGE | SEX | WEIGHT | SURFACE | MONTHS => datum(case, r, place),
         LOWEST | HIGHEST => return dose(case, r, entry),

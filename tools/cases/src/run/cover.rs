@@ -3,6 +3,7 @@
 use super::answers_of;
 use super::exchange::{self, exchange, Exchange};
 use super::lies::{lies, Lies};
+use super::quiet::{self, missing, Missing};
 use crate::generate::case::{Case, Numbers};
 use crate::generate::joints::Bounded;
 use crate::generate::months::Setting;
@@ -76,6 +77,8 @@ pub enum Seen {
     Lies(Bounded, Lies),
     /// Rows of the unit beside the entered one, by the months setting.
     Exchange(Exchange),
+    /// The frequency is missing.
+    Missing(Missing),
     /// A table that was searched, of three rows or more, in which a key has several.
     Order(Table, Order),
     /// A key looked for in a table of three rows or more.
@@ -97,7 +100,9 @@ impl Coverage {
             self.entries += 1;
             let lies = lies(case, answer, entry).into_iter().map(|(of, lies)| Seen::Lies(of, lies));
             let exchange = Setting::of(entry).and_then(|setting| exchange(case, answer, entry, setting));
+            let missing = missing(case, answer, entry).into_iter().map(Seen::Missing);
             let more = searches(answer, entry, &orders).into_iter().chain(lies).chain(exchange.map(Seen::Exchange));
+            let more = more.chain(missing);
             for seen in seen(answer, entry).into_iter().chain(more) {
                 *self.counts.entry(seen).or_default() += 1;
             }
@@ -238,6 +243,7 @@ pub fn required() -> Vec<Seen> {
         all.extend(Lies::ALL.into_iter().filter(|lies| lies.can_occur(of)).map(|lies| Seen::Lies(of, lies)));
     }
     all.extend(exchange::required(MONTHS_NOT_GIVEN).into_iter().map(Seen::Exchange));
+    all.extend(quiet::required().into_iter().map(Seen::Missing));
     for table in Table::ALL {
         all.extend(Order::ALL.map(|order| Seen::Order(table, order)));
         for falls in [Falls::Never, Falls::Once, Falls::Often] {
@@ -275,6 +281,7 @@ pub fn tests() -> Vec<Test> {
     all.extend([NoGpk, GpkAbsent, GpkSeveral, AgeMissing, SexMissing, SexDiffers]);
     all.extend([HpkMissing, HpkSeveral, PrkMissing, PrkSeveral, BaseLevelAbsent, BaseLevelSeveral]);
     all.extend([SettingAbsent, SettingSeveral, CategoryTooLong, AgeNoRow]);
+    all.extend([QuietWeightMissing, QuietSurfaceMissing, Suppressed]);
     all.extend([OnlyCountDiffers, OnlyUnitDiffers, BothDiffer]);
     all.extend([WeightMissing, WeightNoRow, SurfaceMissing, SurfaceNoRow]);
     all.extend([RowsSeveral, LimitsAbsent, LimitsSeveral, Compared]);

@@ -75,6 +75,8 @@ pub enum Seen {
     Compared(Own),
     /// At a place.
     Test(Test),
+    /// A signal suppressed at the first place, between others, at the last.
+    Suppressed(Own),
     /// Rows of the unit beside the entered one, at a place, by the months setting.
     Exchange(Exchange),
     /// Months not given, and a twin that needs them on at the first place, between others, at the last.
@@ -183,6 +185,8 @@ fn answered(case: &Case, entry: &Numbers, range: &Range) -> Vec<Seen> {
     all.push(Seen::Different(different.len().min(4)));
     let compared = answers.iter().zip(first..).filter(|(answer, _)| answer.numbers[0] == 100 && different.len() > 1);
     all.extend(compared.map(|(_, count)| Seen::Compared(own(count, range))));
+    let suppressed = answers.iter().zip(first..).filter(|(answer, _)| answer.test == Test::Suppressed && first < last);
+    all.extend(suppressed.map(|(_, count)| Seen::Suppressed(own(count, range))));
     all.extend(Setting::of(entry).into_iter().flat_map(|setting| exchanges(&single, &answers, setting, range)));
     all
 }
@@ -227,6 +231,7 @@ pub fn required() -> Vec<Seen> {
     all.extend([Seen::ZeroAmong, Seen::AboveAmong]);
     all.extend([1, 2, 3, 4].map(Seen::Different));
     all.extend([Own::First, Own::Among, Own::Last].map(Seen::Compared));
+    all.extend([Own::First, Own::Among, Own::Last].map(Seen::Suppressed));
     all.extend(tests().into_iter().map(Seen::Test));
     all.extend(exchange::required(MONTHS_NOT_GIVEN).into_iter().map(Seen::Exchange));
     all.extend([Own::First, Own::Among, Own::Last].map(Seen::MonthTwin));

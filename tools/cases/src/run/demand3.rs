@@ -6,7 +6,7 @@ use super::smallest::{compared, Outcome, Piece};
 use super::{answers_of, program, show};
 use crate::generate::case::{Case, Numbers};
 use crate::generate::counts::CountCase;
-use second::check::entry::{BLANK, RANGES};
+use second::check::entry::{BLANK, RANGES, SURFACE, WEIGHT};
 use second::check::Test;
 use std::ops::Range;
 
@@ -46,6 +46,8 @@ pub struct Judged {
     pub entries: u64,
     pub fillings_of_other_answers: u64,
     pub fillings_of_the_question: u64,
+    /// Those among them whose question stands in step 9 (P4).
+    pub fillings_of_step_9: u64,
     pub fillings_of_other_blanks: u64,
     pub reordered: u64,
 }
@@ -126,6 +128,8 @@ fn judge<P>(filling: &Filling<P>, lines: &[String], reordered: &[String], judged
             None => question_names_a_blank(&lines[place], &filling.case.entries[place], judged),
             Some(Filled { of, datum }) => {
                 let later = places[place] > places[of];
+                let asked = [(WEIGHT, Test::QuietWeightMissing), (SURFACE, Test::QuietSurfaceMissing)];
+                judged.fillings_of_step_9 += asked.contains(&(datum, places[of])) as u64;
                 judge_filled(&lines[of], &lines[place], datum, later, judged)
             }
         };

@@ -3,9 +3,9 @@
 use super::{edges_counts, program};
 use crate::generate::proof_table::{k1, tables};
 use second::check::Table;
-use second::stream::{CASE_MOST, HEADER};
+use second::stream::{CASE_MOST, ENTRY, HEADER};
 
-const ANSWER: &str = "100 0 0 1500 33784 1 0 0\n";
+const ANSWER: &str = "100 0 0 1500 33784 1 0 0 0\n";
 pub const BROKEN: &str = "broken\n";
 
 /// A name, a stream, and the output it must give.
@@ -21,7 +21,7 @@ pub fn streams() -> Vec<Edge> {
         ("no rows and no entries".to_string(), vec![0; HEADER], String::new()),
         ("two cases".to_string(), [&whole[..], &whole].concat(), ANSWER.repeat(2)),
     ];
-    for end in [1, HEADER - 1, HEADER, HEADER + 1, whole.len() - 80, whole.len() - 1] {
+    for end in [1, HEADER - 1, HEADER, HEADER + 1, whole.len() - ENTRY, whole.len() - 1] {
         all.push((format!("cut after {end} bytes"), whole[..end].to_vec(), BROKEN.to_string()));
         let behind = [&whole[..], &whole[..end]].concat();
         all.push((format!("cut {end} bytes into the second case"), behind, ANSWER.to_string() + BROKEN));
@@ -32,7 +32,7 @@ pub fn streams() -> Vec<Edge> {
     all.push((
         "a case of 4 MiB".to_string(),
         [&longest[..], &whole].concat(),
-        format!("121 0 730 0 0 0 0 0\n{ANSWER}"),
+        format!("121 0 730 0 0 0 0 0 0\n{ANSWER}"),
     ));
     case.rows(Table::T730).tail.push(7);
     all.push((
@@ -45,10 +45,10 @@ pub fn streams() -> Vec<Edge> {
         header[4 * place..4 * place + 4].fill(255);
         all.push((format!("greatest number at place {place} of the header"), header, BROKEN.to_string()));
     }
-    // 53,687,092 entries are 2^32 + 64 bytes: short where the size is reckoned in 32 bits.
+    // 51,130,564 entries of 84 bytes are 2^32 + 80 bytes: short where the size is reckoned in 32 bits.
     let mut header = [0; HEADER];
-    header[24..28].copy_from_slice(&53_687_092u32.to_le_bytes());
-    all.push(("entries of more than 4 GiB".to_string(), [&header[..], &[0; 64]].concat(), BROKEN.to_string()));
+    header[24..28].copy_from_slice(&51_130_564u32.to_le_bytes());
+    all.push(("entries of more than 4 GiB".to_string(), [&header[..], &[0; 80]].concat(), BROKEN.to_string()));
     all
 }
 

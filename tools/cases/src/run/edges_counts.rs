@@ -8,7 +8,7 @@ use second::stream::counts::ENTRY_AND_RANGE;
 use second::stream::{CASE_MOST, HEADER};
 
 /// K1 for 1, 2 and 3.
-const ANSWERS: &str = "115 24 0 1500 33784 0 0 0\n100 0 0 1500 33784 1 0 0\n115 24 0 1500 33784 0 0 0\n";
+const ANSWERS: &str = "115 24 0 1500 33784 0 0 0 0\n100 0 0 1500 33784 1 0 0 0\n115 24 0 1500 33784 0 0 0 0\n";
 /// Numbers that are few, or at most 64, in 8 or 16 bits, and the greatest.
 const FAR: [u32; 7] = [66, 128, 256, 256 + 3, 65_536, 65_536 + 3, u32::MAX];
 
@@ -91,7 +91,7 @@ fn sizes(whole: &[u8]) -> Vec<Edge> {
     let mut case = with(&[[1, 3, 3], [3, 1, 3]]);
     let room = CASE_MOST as usize - case.bytes().len();
     case.case.rows(Table::T730).tail = vec![7; room];
-    let misshapen = "121 0 730 0 0 0 0 0\n".repeat(3) + "131\n";
+    let misshapen = "121 0 730 0 0 0 0 0 0\n".repeat(3) + "131\n";
     let mut all = vec![edge("a case of 4 MiB", &[&case.bytes(), whole], &[&misshapen, ANSWERS])];
     case.case.rows(Table::T730).tail.push(7);
     all.push(edge("a case of 4 MiB and one byte", &[whole, &case.bytes()], &[ANSWERS, BROKEN]));
@@ -108,9 +108,9 @@ fn sizes(whole: &[u8]) -> Vec<Edge> {
         header[4 * place..4 * place + 4].fill(255);
         all.push(edge(&format!("greatest number at place {place} of the header"), &[&header], &[BROKEN]));
     }
-    // 46,684,428 entries are 2^32 + 80 bytes: short where the size is reckoned in 32 bits.
+    // 44,739,243 entries of 96 bytes are 2^32 + 32 bytes: short where the size is reckoned in 32 bits.
     let mut header = [0; HEADER];
-    header[24..28].copy_from_slice(&46_684_428u32.to_le_bytes());
-    all.push(edge("entries of more than 4 GiB", &[&header, &[0; 80]], &[BROKEN]));
+    header[24..28].copy_from_slice(&44_739_243u32.to_le_bytes());
+    all.push(edge("entries of more than 4 GiB", &[&header, &[0; 32]], &[BROKEN]));
     all
 }

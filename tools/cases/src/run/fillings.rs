@@ -10,6 +10,9 @@ use second::check::entry::*;
 /// The data an entry may leave blank, each with its question.
 pub const DATA: [(usize, u32); 6] = [(AGE, 101), (SEX, 102), (HPK, 103), (PRK, 104), (WEIGHT, 105), (SURFACE, 106)];
 
+/// What quiet not given means, in a range too (P4).
+const QUIET_NOT_GIVEN: u32 = QUIET_OFF;
+
 /// A line that answers the entry of another with one datum filled: the place of the other, and the datum.
 #[derive(Clone, Copy)]
 pub struct Filled {
@@ -119,11 +122,13 @@ pub fn filling<P: Fillable>(seed: u64, number: u64) -> Filling<P> {
                 filled.push(Some(Filled { of, datum }));
             }
         }
-        if entry[MONTHS] == BLANK {
-            let mut given = entry;
-            given[MONTHS] = P::MONTHS_NOT_GIVEN;
-            case.entries.push(given);
-            filled.push(Some(Filled { of, datum: MONTHS }));
+        for (setting, means) in [(MONTHS, P::MONTHS_NOT_GIVEN), (QUIET, QUIET_NOT_GIVEN)] {
+            if entry[setting] == BLANK {
+                let mut given = entry;
+                given[setting] = means;
+                case.entries.push(given);
+                filled.push(Some(Filled { of, datum: setting }));
+            }
         }
     }
     let mut shuffled = case.clone();

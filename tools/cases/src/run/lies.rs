@@ -66,7 +66,7 @@ impl Lies {
 /// Place of the category in the answer.
 const CATEGORY: usize = 4;
 
-type Row<'c> = &'c [u64];
+pub type Row<'c> = &'c [u64];
 
 fn bounds(of: Bounded, row: Row) -> (u64, u64) {
     (row[of.low()], row[of.low() + 1])
@@ -93,7 +93,8 @@ fn of_category<'c>(case: &'c Case, answer: &Answer) -> Vec<Row<'c>> {
     rows.cells.chunks_exact(rows.width()).filter(|row| row[0] == category).collect()
 }
 
-fn fit(of: Bounded, rows: &mut Vec<Row>, value: u64) {
+/// Keeps the rows that a datum fits.
+pub fn fit(of: Bounded, rows: &mut Vec<Row>, value: u64) {
     rows.retain(|row| Lies::of(bounds(of, row).0, bounds(of, row).1, value).fits());
 }
 

@@ -13,6 +13,7 @@ pub mod exchange;
 pub mod fillings;
 pub mod lies;
 pub mod program;
+pub mod quiet;
 pub mod searches;
 pub mod show;
 pub mod smallest;

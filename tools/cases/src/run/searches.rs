@@ -4,10 +4,11 @@
 
 use super::answers_of;
 use super::cover::searched;
-use crate::generate::case::{Case, Rows};
+use super::quiet::looked_for;
+use crate::generate::case::{Case, Numbers, Rows};
 use crate::generate::order::{key_place, keys, Order};
 use crate::generate::{self, LONG_CASES};
-use second::check::Table;
+use second::check::{Answer, Table};
 
 macro_rules! mistakes {
     ($($name:ident,)*) => {
@@ -80,18 +81,46 @@ fn wrong(mistake: Mistake, rows: &Rows, key: u64) -> Option<Rows> {
     Some(wrong)
 }
 
+/// What is searched: a table for the one key of a step, or 649 for the rules of rows per day (P4).
+#[derive(Clone, Copy, PartialEq, Eq, Debug)]
+pub enum Searched {
+    Table(Table),
+    PerDay,
+}
+
+impl Searched {
+    fn table(self) -> Table {
+        match self {
+            Searched::Table(table) => table,
+            Searched::PerDay => Table::T649,
+        }
+    }
+
+    fn name(self) -> String {
+        let for_day = if self == Searched::PerDay { ", for rows per day" } else { "" };
+        format!("{}{for_day}", self.table().number())
+    }
+}
+
+/// What was searched for an answer, each with the key that was looked for.
+fn keys_of(case: &Case, answer: &Answer, entry: &Numbers) -> Vec<(Searched, u64)> {
+    let one = searched(answer, entry).into_iter().map(|(table, key)| (Searched::Table(table), key));
+    one.chain(looked_for(case, answer, entry).into_iter().map(|key| (Searched::PerDay, key))).collect()
+}
+
 /// The wrong searches, each with the number of the case that told it.
 pub struct Searches {
-    pub all: Vec<(Table, Mistake, Option<u64>)>,
+    pub all: Vec<(Searched, Mistake, Option<u64>)>,
 }
 
 impl Searches {
     pub fn new() -> Searches {
-        let of = |table: Table| ALL.iter().map(move |mistake| (table, *mistake, None));
-        Searches { all: Table::ALL.into_iter().flat_map(of).collect() }
+        let of = |searched: Searched| ALL.iter().map(move |mistake| (searched, *mistake, None));
+        let searched = Table::ALL.map(Searched::Table).into_iter().chain([Searched::PerDay]);
+        Searches { all: searched.flat_map(of).collect() }
     }
 
-    pub fn untold(&self) -> Vec<(Table, Mistake)> {
+    pub fn untold(&self) -> Vec<(Searched, Mistake)> {
         self.all.iter().filter(|search| search.2.is_none()).map(|search| (search.0, search.1)).collect()
     }
 
@@ -101,9 +130,11 @@ impl Searches {
             return;
         }
         for (answer, entry) in answers_of(case).iter().zip(&case.entries) {
-            for (table, key) in searched(answer, entry) {
-                let untold = |search: &&mut (Table, Mistake, Option<u64>)| search.0 == table && search.2.is_none();
+            for (searched, key) in keys_of(case, answer, entry) {
+                let untold =
+                    |search: &&mut (Searched, Mistake, Option<u64>)| search.0 == searched && search.2.is_none();
                 for (_, mistake, told) in self.all.iter_mut().filter(untold) {
+                    let table = searched.table();
                     let Some(rows) = wrong(*mistake, &case.tables[table as usize], key) else { continue };
                     let mut wrong = Case { tables: case.tables.clone(), entries: vec![*entry] };
                     *wrong.rows(table) = rows;
@@ -116,10 +147,10 @@ impl Searches {
     }
 
     pub fn print(&self) {
-        for (table, mistake, told) in &self.all {
+        for (searched, mistake, told) in &self.all {
             match told {
-                Some(number) => println!("{mistake:?} in {}: case {number}", table.number()),
-                None => println!("{mistake:?} in {}: NOT TOLD", table.number()),
+                Some(number) => println!("{mistake:?} in {}: case {number}", searched.name()),
+                None => println!("{mistake:?} in {}: NOT TOLD", searched.name()),
             }
         }
         println!("{} of {} wrong searches told", self.all.len() - self.untold().len(), self.all.len());

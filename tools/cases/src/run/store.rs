@@ -7,9 +7,10 @@ use crate::generate::calls::{call_case, stream as stream_of, CallCase};
 use crate::generate::case::Case;
 use crate::generate::joints::{self, Bounded};
 use crate::generate::order::Order;
-use crate::generate::{self, chains, full, months, proof_table, FULL_640, TOO_LONG_640};
+use crate::generate::{self, chains, full, months, proof_table, quiet, FULL_640, TOO_LONG_640};
 use crate::random::Random;
-use second::check::entry::{BLANK, MONTHS, MONTHS_OFF};
+use quiet::One::{LimitsAbsent, NormMinimum, Suppresses};
+use second::check::entry::{BLANK, MONTHS, MONTHS_OFF, QUIET_OFF, QUIET_ON};
 use second::check::Table;
 use second::record::calls::{calls as call_lines, Call, BYTES_MOST};
 use second::record::list::unit_list;
@@ -27,14 +28,22 @@ const CHOSEN_CASES: &str = include_str!("../../stored/cases");
 const CHOSEN_CALLS: &str = include_str!("../../stored/calls");
 /// Numbers of the stored ones in which an entry gave no months setting and gets another answer for it by P3.
 const CHOSEN_MONTHS: &str = include_str!("../../stored/months");
-/// The rest is filled up with cases no longer than this, since all of them stand in the repository.
+/// The rest is filled up with cases no longer than this before P4, since all of them stand in the repository.
 const FILLING_BYTES: usize = 1_000;
 const UNIT_FILES: u64 = 400;
 
-/// Those of P3 behind those before it, which keep their answers.
+/// Those of P4 behind those before it, which keep their answers.
 pub fn cases() -> Vec<Case> {
+    let mut cases = cases_before_p4();
+    cases.extend(p4_cases());
+    cases
+}
+
+/// Those of P3 behind those before it, which keep their answers. None of them gives a quiet setting.
+pub fn cases_before_p4() -> Vec<Case> {
     let mut cases = cases_before_p3();
     cases.extend(p3_cases());
+    quiet::not_given(cases.iter_mut().flat_map(|case| &mut case.entries));
     cases
 }
 
@@ -57,8 +66,13 @@ fn first_cases() -> Vec<Case> {
     cases.extend(chosen.iter().map(made));
     let others = (0..).filter(|number| !chosen.contains(number)).map(|number| made(&number));
     let room = CASES - cases.len();
-    cases.extend(others.filter(|case| case.bytes().len() <= FILLING_BYTES).take(room));
+    cases.extend(others.filter(|case| bytes_before_p4(case) <= FILLING_BYTES).take(room));
     cases
+}
+
+/// Those that fill up were chosen by their length before entries had a quiet setting.
+pub(super) fn bytes_before_p4(case: &Case) -> usize {
+    case.bytes().len() - size_of::<u32>() * case.entries.len()
 }
 
 pub(super) fn numbers(list: &str) -> Vec<u64> {
@@ -110,6 +124,20 @@ fn without_months(number: u64) -> Case {
     let mut case = generate::light_made(SEED, number);
     case.entries.retain(|entry| entry[MONTHS] == BLANK);
     case
+}
+
+/// The proof table with quiet off and on, and P4's examples over it; each condition and each comparison, and some of them
+/// where the keys of 649 fall; categories of 512 rows per day, where one row decides, wherever it stands.
+pub fn p4_cases() -> Vec<Case> {
+    let mut cases = [QUIET_OFF, QUIET_ON].map(proof_table::with_quiet).to_vec();
+    cases.push(proof_table::with(&proof_table::QUIET_K));
+    cases.push(quiet::each());
+    let r = &mut Random::of_case(SEED, 0);
+    cases.extend(Order::ALL[1..].iter().map(|order| quiet::ordered(*order)));
+    for (one, place) in [(Suppresses, 511), (Suppresses, 0), (LimitsAbsent, 256), (NormMinimum, 511)] {
+        cases.push(quiet::full(one, place, place != 0, r));
+    }
+    cases
 }
 
 pub(super) fn write(dir: &Path, stdin: &[u8], stdout: &[u8]) -> io::Result<()> {

@@ -1,11 +1,11 @@
 //! Stored cases of ranges, and the output this program gives.
 
 use super::smallest::Piece;
-use super::store::{numbers, write, SEED};
+use super::store::{bytes_before_p4, numbers, write, SEED};
 use crate::generate::counts::{made_count_case, CountCase, Range};
-use crate::generate::{full, months, proof_ranges};
+use crate::generate::{full, months, proof_ranges, quiet};
 use crate::random::Random;
-use second::check::entry::{BLANK, MONTHS_OFF};
+use second::check::entry::{BLANK, MONTHS_OFF, QUIET_OFF, QUIET_ON};
 use second::stream::counts::PLACES_MOST;
 use second::stream::BROKEN;
 use std::{io, path::Path};
@@ -18,10 +18,19 @@ pub const CASES: usize = 230;
 const FILLING_RANGES: usize = 5;
 const FILLING_BYTES: usize = 2_000;
 
-/// Those of P3 behind those before it, which keep their answers: a range says on where its entry gives no setting.
+/// Those of P4 behind those before it, which keep their answers.
 pub fn cases() -> Vec<CountCase> {
+    let mut cases = cases_before_p4();
+    cases.extend(p4_cases());
+    cases
+}
+
+/// Those of P3 behind those before it, which keep their answers: a range says on where its entry gives no months
+/// setting. None of them gives a quiet setting.
+pub fn cases_before_p4() -> Vec<CountCase> {
     let mut cases = cases_before_p3();
     cases.extend(p3_cases());
+    quiet::not_given(cases.iter_mut().flat_map(|case| &mut case.case.entries));
     cases
 }
 
@@ -35,9 +44,14 @@ fn cases_before_p3() -> Vec<CountCase> {
     cases.extend(chosen.iter().map(made));
     let others = (0..).filter(|number| !chosen.contains(number)).map(|number| made(&number));
     let room = CASES - cases.len();
-    let filling = |case: &CountCase| case.ranges.len() >= FILLING_RANGES && case.bytes().len() <= FILLING_BYTES;
+    let filling = |case: &CountCase| case.ranges.len() >= FILLING_RANGES && bytes(case) <= FILLING_BYTES;
     cases.extend(others.filter(filling).take(room));
     cases
+}
+
+/// Before P4, with the three numbers of each range.
+fn bytes(case: &CountCase) -> usize {
+    bytes_before_p4(&case.case) + 3 * size_of::<u32>() * case.ranges.len()
 }
 
 /// The proof table for 1, 2 and 3 with months off and not given; each time unit that has one beside it, with each
@@ -45,6 +59,13 @@ fn cases_before_p3() -> Vec<CountCase> {
 pub fn p3_cases() -> Vec<CountCase> {
     let mut cases = [MONTHS_OFF, BLANK].map(proof_ranges::k_1_to_3_with_months).to_vec();
     cases.extend(months::UNITS.map(months::ranges));
+    cases
+}
+
+/// The proof table for 1, 2 and 3 with quiet off and on, P4's examples over it for 1 to 4; what is asked for a range.
+pub fn p4_cases() -> Vec<CountCase> {
+    let mut cases = [QUIET_OFF, QUIET_ON].map(proof_ranges::k_1_to_3_with_quiet).to_vec();
+    cases.extend([proof_ranges::quiet_1_to_4(), quiet::ranges()]);
     cases
 }
 

@@ -126,6 +126,11 @@ pub fn months(file: &str) -> String {
     fs::read_to_string(Path::new(SAMPLE).join("months").join(file)).unwrap()
 }
 
+/// A file of the sample with quiet.
+pub fn quiet(file: &str) -> String {
+    fs::read_to_string(Path::new(SAMPLE).join("quiet").join(file)).unwrap()
+}
+
 /// The header of the entries, then K1 under each of these names with this count.
 pub fn k1_with(counts: &[(&str, &str)]) -> String {
     let entry = |(name, count): &(&str, &str)| {

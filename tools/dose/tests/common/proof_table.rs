@@ -31,10 +31,12 @@ pub const TIME: usize = 12;
 pub const LOWEST: usize = 13;
 pub const HIGHEST: usize = 14;
 pub const MONTHS: usize = 19;
+pub const QUIET: usize = 20;
 
-/// With months on, as P3 has all cases of the proof table.
-pub const K1: [u32; 20] =
-    [103136, BLANK, BLANK, 240, BLANK, 75000, BLANK, 3, 0, 0, 0, 2, 19, 2000, 2000, 233, 233, 0, 0, ON];
+/// With months on, as P3 has all cases of the proof table, and without a quiet setting.
+pub const K1: [u32; 21] = [
+    103136, BLANK, BLANK, 240, BLANK, 75000, BLANK, 3, 0, 0, 0, 2, 19, 2000, 2000, 233, 233, 0, 0, ON, BLANK,
+];
 
 /// K1 with these numbers changed.
 pub fn k1_but(changes: &[(usize, u32)]) -> Vec<u32> {

@@ -1,6 +1,9 @@
-//! The eight numbers, with the test that gave them and the ways the steps went.
+//! The nine numbers, with the test that gave them and the ways the steps went.
 
 use super::{text, Compared, Test, Ways};
+
+/// Numbers of an answer.
+pub const NUMBERS: usize = 9;
 
 /// What the steps have chosen so far; a number not reached is 0.
 #[derive(Clone, Copy, Default)]
@@ -8,29 +11,33 @@ pub struct Found {
     pub basis: u32,
     pub category: u32,
     pub rule: u32,
+    /// The signal that quiet suppressed.
+    pub suppressed: u32,
     pub ways: Ways,
 }
 
 #[derive(Clone, Copy)]
 pub struct Answer {
-    /// answer, text, table, basis, category, rule, high, low
-    pub numbers: [u32; 8],
+    /// answer, text, table, basis, category, rule, high, low, suppressed
+    pub numbers: [u32; NUMBERS],
     pub test: Test,
     pub ways: Ways,
     pub compared: Option<Compared>,
 }
 
 impl Answer {
+    /// Of every test but the comparison.
     pub fn refused(test: Test, found: &Found) -> Answer {
         let text = text::of_refusal(test);
-        let numbers = [test.answer(), text, test.table(), found.basis, found.category, found.rule, 0, 0];
+        let Found { suppressed, .. } = *found;
+        let numbers = [test.answer(), text, test.table(), found.basis, found.category, found.rule, 0, 0, suppressed];
         Answer { numbers, test, ways: found.ways, compared: None }
     }
 
     pub fn compared(compared: Compared, found: &Found) -> Answer {
         let Compared { high, low, gprisc, .. } = compared;
         let text = text::of_compared(high, low, gprisc);
-        let numbers = [100, text, 0, found.basis, found.category, found.rule, high, low];
+        let numbers = [100, text, 0, found.basis, found.category, found.rule, high, low, 0];
         Answer { numbers, test: Test::Compared, ways: found.ways, compared: Some(compared) }
     }
 

@@ -1,12 +1,12 @@
 //! Document 02, P2: a range of counts, "1 to 3 times a day", each count checked by itself (001, 3.4.1).
 
 use super::entry::{COUNT, MONTHS, MONTHS_ON};
-use super::{check, Entry, Lent};
+use super::{check, Entry, Lent, NUMBERS};
 
 /// A range of more counts is refused.
 pub const COUNTS_MOST: u64 = 16;
-/// Numbers of one answer: a place of the list.
-pub const PLACE: usize = 8;
+/// A place of the list holds one answer.
+pub const PLACE: usize = NUMBERS;
 
 pub const NO_RANGE: u32 = 131;
 pub const TOO_SHORT: u32 = 132;
@@ -34,7 +34,7 @@ fn counts(first: u32, last: u32) -> Option<usize> {
     (counts <= COUNTS_MOST).then_some(counts as usize)
 }
 
-/// P3: a range says on where its entry gives no setting.
+/// P3: a range says on where its entry gives no months setting. Quiet is handed on as it is given.
 fn with_months(entry: &Entry) -> Entry {
     let mut numbers = entry.numbers;
     if entry.months.is_none() {

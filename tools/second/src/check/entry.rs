@@ -2,7 +2,7 @@
 
 use super::test::{Side, Test};
 
-pub const FIELDS: usize = 20;
+pub const FIELDS: usize = 21;
 
 /// Blank, or not given, in the stream.
 pub const BLANK: u32 = u32::MAX;
@@ -17,11 +17,13 @@ pub const DOSE_MOST: u32 = 999_999_999;
 
 pub const MONTHS_OFF: u32 = 0;
 pub const MONTHS_ON: u32 = 1;
+pub const QUIET_OFF: u32 = 0;
+pub const QUIET_ON: u32 = 1;
 
 /// A field: its name, lowest and highest permitted number.
 type Field = (&'static str, u32, u32);
 
-/// Document 01's order.
+/// Document 01's order, then P4's setting.
 pub const RANGES: [Field; FIELDS] = [
     ("GPK", 0, CODE_MOST),
     ("PRK", 1, CODE_MOST),
@@ -43,6 +45,7 @@ pub const RANGES: [Field; FIELDS] = [
     ("SRTCDE", 0, UNIT_MOST),
     ("CODE", 0, CODE_MOST),
     ("months", MONTHS_OFF, MONTHS_ON),
+    ("quiet", QUIET_OFF, QUIET_ON),
 ];
 
 pub const GPK: usize = 0;
@@ -65,8 +68,9 @@ pub const BASE_UNIT: usize = 16;
 pub const SRTCDE: usize = 17;
 pub const CODE: usize = 18;
 pub const MONTHS: usize = 19;
+pub const QUIET: usize = 20;
 
-pub const MAY_BE_BLANK: [usize; 7] = [PRK, HPK, AGE, SEX, WEIGHT, SURFACE, MONTHS];
+pub const MAY_BE_BLANK: [usize; 8] = [PRK, HPK, AGE, SEX, WEIGHT, SURFACE, MONTHS, QUIET];
 
 #[derive(Clone, Copy, Debug)]
 pub struct Entry {
@@ -91,6 +95,7 @@ pub struct Entry {
     pub srtcde: u32,
     pub code: u32,
     pub months: Option<u32>,
+    pub quiet: Option<u32>,
 }
 
 impl Entry {
@@ -119,6 +124,7 @@ impl Entry {
             srtcde: n[SRTCDE],
             code: n[CODE],
             months: given(MONTHS),
+            quiet: given(QUIET),
         }
     }
 }

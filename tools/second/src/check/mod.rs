@@ -1,4 +1,4 @@
-//! The dose check in document 01's twelve steps.
+//! The dose check in document 01's twelve steps, as document 02 changes them.
 
 mod answer;
 mod category;
@@ -11,6 +11,7 @@ mod level;
 mod limits;
 mod measures;
 mod product;
+mod quiet;
 mod setting;
 mod shape;
 pub mod tables;
@@ -19,9 +20,10 @@ mod text;
 mod unit;
 mod ways;
 
-pub use answer::{push_line, push_number, Answer};
+pub use answer::{push_line, push_number, Answer, NUMBERS};
 pub use entry::Entry;
 pub use limits::Compared;
+pub use quiet::{Quiet, Why};
 pub use tables::Lent;
 pub use test::{Side, Table, Test};
 pub use unit::Ratio;
@@ -47,9 +49,12 @@ fn steps(lent: &Lent, entry: &Entry, found: &mut Found) -> Result<Compared, Test
     let age = product::patient(product, entry)?;
     let (basis, level) = level::basis(&lent.t641, entry)?;
     (found.basis, found.ways.level) = (basis, level);
-    found.category = setting::category(&lent.t642, entry, basis, &mut found.ways)?;
+    let setting = setting::setting(&lent.t642, entry, basis, &mut found.ways)?;
+    found.category = setting.gpdcat;
     let aged = category::of_age(&lent.t643, found.category, age)?;
-    let timed = frequency::of_frequency(&aged, entry, &mut found.ways)?;
+    let missing = quiet::Missing { product, setting, aged: &aged, t649: &lent.t649, ratio };
+    let timed = frequency::of_frequency(&aged, entry, &mut found.ways);
+    let timed = timed.map_err(|signal| quiet::instead(signal, &missing, entry, found))?;
     let weighed = measures::of_weight(&timed, entry, &mut found.ways)?;
     let left = measures::of_surface(&weighed, entry, &mut found.ways)?;
     let limits = limits::of_rule(&lent.t649, &left, found)?;

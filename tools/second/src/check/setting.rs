@@ -1,24 +1,24 @@
-//! Step 6: the setting in 642 (001, 4.4) and its GPDCAT.
+//! Step 6: the setting in 642 (001, 4.4).
 
 use super::entry::Entry;
 use super::tables::Row642;
 use super::test::Test;
 use super::ways::{Care, Reason, Route, Ways};
 
-const Q_GENERAL: u32 = 17_752;
+pub const Q_GENERAL: u32 = 17_752;
 const INTENSIVE_CARE: u32 = 2;
 const ALL_CARE: u32 = 3;
 
 type Rows<'t> = Vec<&'t Row642>;
 
-pub fn category(t642: &[Row642], entry: &Entry, basis: u32, ways: &mut Ways) -> Result<u32, Test> {
+pub fn setting<'t>(t642: &'t [Row642], entry: &Entry, basis: u32, ways: &mut Ways) -> Result<&'t Row642, Test> {
     let rows: Rows = t642.iter().filter(|row| row.gpdbas == basis).collect();
     let rows = of_care(&rows, entry, ways);
     let rows = of_reason(&rows, entry, ways);
     let rows = of_route(&rows, entry, ways);
     match rows[..] {
         [] => Err(Test::SettingAbsent),
-        [row] => Ok(row.gpdcat),
+        [row] => Ok(row),
         _ => Err(Test::SettingSeveral),
     }
 }

@@ -1,4 +1,5 @@
-//! The tests of document 01 in the order of the twelve steps; one test gives one answer number.
+//! The tests of document 01 in the order of the twelve steps, with those that document 02 puts among them; one test gives
+//! one answer number.
 
 #[derive(Clone, Copy, PartialEq, Eq, PartialOrd, Ord, Debug)]
 pub enum Table {
@@ -69,6 +70,9 @@ pub enum Test {
     SettingSeveral,
     CategoryTooLong,
     AgeNoRow,
+    QuietWeightMissing,
+    QuietSurfaceMissing,
+    Suppressed,
     OnlyCountDiffers,
     OnlyUnitDiffers,
     BothDiffer,
@@ -86,13 +90,13 @@ impl Test {
     pub fn answer(self) -> u32 {
         use Test::*;
         match self {
-            Compared => 100,
+            Compared | Suppressed => 100,
             AgeMissing => 101,
             SexMissing => 102,
             HpkMissing => 103,
             PrkMissing => 104,
-            WeightMissing => 105,
-            SurfaceMissing => 106,
+            WeightMissing | QuietWeightMissing => 105,
+            SurfaceMissing | QuietSurfaceMissing => 106,
             NoGpk => 110,
             GpkAbsent => 111,
             SexDiffers => 112,

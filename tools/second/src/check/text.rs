@@ -2,7 +2,7 @@
 
 use super::Test;
 
-/// The text of every answer but 100.
+/// The text of every answer but a comparison; 0 where quiet suppressed the signal.
 pub fn of_refusal(test: Test) -> u32 {
     match test.answer() {
         101 => 12,

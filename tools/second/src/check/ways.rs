@@ -1,6 +1,7 @@
 //! Which way each step went: only counted, never consulted.
 
 use super::entry::Entry;
+use super::quiet::Quiet;
 
 #[derive(Clone, Copy, Default, PartialEq, Eq, PartialOrd, Ord, Debug)]
 pub enum Unit {
@@ -69,6 +70,8 @@ pub struct Ways {
     pub reason: Reason,
     pub route: Route,
     pub time: Time,
+    /// Where step 9 found no frequency, with quiet on.
+    pub quiet: Option<Quiet>,
     pub weight_matters: Option<bool>,
     pub surface_matters: Option<bool>,
 }

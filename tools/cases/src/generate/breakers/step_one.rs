@@ -1,10 +1,10 @@
 //! Step 1: the entry and the tables out of range.
 
 use super::first;
-use crate::generate::case::Case;
+use crate::generate::case::{Case, MADE_FIELDS};
 use crate::generate::space::NO_UPPER;
 use crate::random::Random;
-use second::check::entry::{BLANK, FIELDS, MAY_BE_BLANK, RANGES};
+use second::check::entry::{BLANK, MAY_BE_BLANK, RANGES};
 use second::check::Table::{self, T643, T730};
 
 /// A number just outside what is permitted, or far outside.
@@ -17,7 +17,7 @@ fn outside(r: &mut Random, low: u64, high: u64, most: u64) -> u64 {
 }
 
 pub fn entry_out_of_range(case: &mut Case, r: &mut Random) {
-    let place = r.below(FIELDS as u64) as usize;
+    let place = r.below(MADE_FIELDS as u64) as usize;
     let (_, low, high) = RANGES[place];
     let most = if MAY_BE_BLANK.contains(&place) { BLANK - 1 } else { BLANK };
     first(case)[place] = outside(r, low as u64, high as u64, most as u64) as u32;

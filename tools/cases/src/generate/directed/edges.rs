@@ -1,10 +1,10 @@
 //! Step 1, and step 2's amounts: numbers at and beside the ends of their ranges.
 
 use super::EDGES;
-use crate::generate::case::Case;
+use crate::generate::case::{Case, MADE_FIELDS};
 use crate::generate::model::model;
 use crate::random::Random;
-use second::check::entry::{BASE_UNIT, BLANK, ENTERED_UNIT, FIELDS, HIGHEST, ICPCTO, LOWEST, RANGES, REASON};
+use second::check::entry::{BASE_UNIT, BLANK, ENTERED_UNIT, HIGHEST, ICPCTO, LOWEST, RANGES, REASON};
 use second::check::Table::{self, T640, T730};
 
 /// One field of the entry at and beside the ends of its range.
@@ -92,7 +92,7 @@ pub fn wild(r: &mut Random) -> Case {
     for _ in 0..5 {
         let mut entry = case.entries[0];
         for _ in 0..r.between(1, 20) {
-            entry[r.below(FIELDS as u64) as usize] = r.next() as u32 >> r.below(32);
+            entry[r.below(MADE_FIELDS as u64) as usize] = r.next() as u32 >> r.below(32);
         }
         case.entries.push(entry);
     }

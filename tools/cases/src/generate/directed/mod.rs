@@ -7,12 +7,11 @@ mod limits;
 mod rows;
 
 use super::breakers::{Breaker, BREAKERS, STEP_ONE};
-use super::case::Case;
+use super::case::{Case, MADE_FIELDS};
 use super::model::model;
 use super::space::TIME_UNITS;
 use super::vary;
 use crate::random::Random;
-use second::check::entry::FIELDS;
 
 type Family = (usize, fn(usize, &mut Random) -> Case);
 
@@ -23,7 +22,7 @@ const EDGES: usize = 6;
 
 const FAMILIES: [Family; 17] = [
     (40, |_, r| varied(r, |_, _| {})),
-    (FIELDS, edges::entry_edges),
+    (MADE_FIELDS, edges::entry_edges),
     (CELLS * EDGES, edges::cell_edges),
     (BREAKERS.len(), |n, r| varied(r, |case, r| BREAKERS[n](case, r))),
     (200, |_, r| varied(r, |case, r| pile(case, r, &BREAKERS))),

@@ -99,7 +99,8 @@ fn with_smaller_ranges(case: &CountCase) -> impl Iterator<Item = CountCase> + '_
     })
 }
 
-/// Fewer counts, with as many places or with fewer; lower counts; fewer places.
+/// Lower counts; fewer counts, with as many places or with fewer; fewer places. Great steps first: a range may have 2^32
+/// counts.
 fn smaller_ranges(range: Range) -> impl Iterator<Item = Range> {
     let Range { first, last, places } = range;
     let bounds = [(first, first), (last, last), (first, last.saturating_sub(1)), (first.saturating_add(1), last)];
@@ -112,10 +113,11 @@ fn smaller_ranges(range: Range) -> impl Iterator<Item = Range> {
         [0, 1, 2, first / 1_000, first / 10].map(|lower| (lower, lower.saturating_add(last.wrapping_sub(first))));
     let ends = [0, 1, last / 1_000, last / 10].map(|last| (first, last));
     let starts = [0, 1, first / 1_000, first / 10].map(|first| (first, last));
-    let all = bounds.into_iter().chain(lower).chain(ends).chain(starts);
-    let all = all.map(move |(first, last)| Range { first, last, places });
+    let of_places = move |(first, last): (u32, u32)| Range { first, last, places };
+    let great = lower.into_iter().chain(ends).chain(starts).map(of_places);
+    let small = with_list.into_iter().chain(bounds.map(of_places));
     let lists = [0, 1, range.counts().min(places as u64) as u32, places / 2, places.saturating_sub(1)];
-    let all = with_list.into_iter().chain(all).chain(lists.map(|places| Range { places, ..range }));
+    let all = great.chain(small).chain(lists.map(|places| Range { places, ..range }));
     all.filter(move |smaller| weight_of_range(smaller) < weight_of_range(&range))
 }
 
