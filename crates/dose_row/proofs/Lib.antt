@@ -1,4 +1,3 @@
 pub mod Narrowed
 pub mod Links
-pub mod Chosen
 pub mod MeasureTold

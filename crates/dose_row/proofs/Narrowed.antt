@@ -1,6 +1,6 @@
 -- The steps that filter, told by whether there is a row that passes. Assumes nothing.
 use Prim.Native.Nat.{ℕ, zero, suc}
-use mathlib.Core.Path.{_≡_, refl, sym, _∙_, ap}
+use mathlib.Core.Path.{_≡_, refl, sym, _∙_}
 use mathlib.Core.Bool.{Bool, true, false, cond}
 use Rattle.guideline.specs.declared.bounds.Bounds.{Bounds}
 use Rattle.guideline.specs.declared.context.Context.{Context}

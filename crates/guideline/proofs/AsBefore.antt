@@ -1,7 +1,7 @@
 -- P4: "With the setting off the other eight numbers are as before." Below is the check as it stood before P4: step 9 ends with its signal, and 125 looks at
 -- no setting after months. With quiet off or not given the check answers what it did (`as-before`), and nothing is suppressed (`nothing-suppressed`).
 use Prim.Native.Nat.{ℕ, suc, _≤_, _<_}
-use mathlib.Core.Path.{_≡_, refl, sym, _∙_, ap, ap₂, fun-ext}
+use mathlib.Core.Path.{_≡_, refl, _∙_, ap, ap₂, fun-ext}
 use mathlib.Core.Bool.{Bool, true, false, cond, not, _&&_, _||_, and-true}
 use native.Mathlib.Nat.{le-refl, le-trans, le-of-lt}
 use borrow.Author.Tests.{eqb-true}
@@ -111,7 +111,7 @@ module _ (e : Entry) (o : Off (e .rest .quiet)) where
   unfolding check check-before
   as-before t = ap answer (same-outcome t)
 
--- no test of the check as it was suppresses a signal: those that do stand between 903 and 906
+-- no test of the check as it was suppresses a signal: those that do stand from 903 to 905
 abbrev Calm : {G : Type 0} → Refusal → G → Type 0
 Calm r g = line r .suppressed ≡ 0
 

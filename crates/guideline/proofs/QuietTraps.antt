@@ -1,7 +1,7 @@
 -- Traps of P4, quiet on a missing frequency: each condition, each question and each comparison by itself, beside the cases of ProofTable.antt. Each answer
 -- follows from 001, 3.4.2, by hand. A route of its own chooses each category; the entry is per day. ExamplesOfTraps.antt proves them.
 use Prim.Native.Nat.{ℕ, _/_, _%_}
-use mathlib.Core.List.{List, [], _∷_, _++_}
+use mathlib.Core.List.{List, [], _∷_}
 use Rattle.guideline.specs.Types.{T640, T641, T642, T643, T649, T730}
 use Rattle.guideline.specs.Values.{off, on}
 use Rattle.guideline.specs.Entries.{blank}
@@ -121,7 +121,7 @@ quiet-traps =
     ∷ stands 150 (put 8 5000 (by 0 666 666))
     ∷ suppressed 101 (put 8 6000 (by 1 666 666))
     ∷ gives (put 12 21 (by 1 666 666)) (117 ∷ 8 ∷ 0 ∷ 5 ∷ 101 ∷ 0 ∷ 0 ∷ 0 ∷ 0 ∷ [])
-    -- one rule's maximum is not taken with another's count; either rule by itself
+    -- one rule's maximum is not taken with another's count; the second rule alone allows 499, both allow 333
     ∷ stands 102 (by 2 600 600)
     ∷ suppressed 102 (by 2 499 499)
     ∷ suppressed 102 (by 2 333 333)
@@ -130,7 +130,7 @@ quiet-traps =
     ∷ stands 104 (by 4 1 1)
     ∷ stands 105 (by 5 1 1)
     ∷ stands 106 (by 6 1 1)
-    -- weight: asked, fits one row or the other, fits none; with age and frequency of another unit it does not matter
+    -- weight: asked, fits one row or the other, fits none; not asked where it matters to a row of another unit only
     ∷ asks-weight 107 (weighing blank (by 7 1 1))
     ∷ suppressed 107 (by 7 1 1)
     ∷ stands 107 (weighing 60_000 (by 7 1 1))
@@ -149,7 +149,7 @@ quiet-traps =
     -- no row per day: 117, and 116 with the count
     ∷ gives (by 11 1 1) (117 ∷ 8 ∷ 0 ∷ 5 ∷ 111 ∷ 0 ∷ 0 ∷ 0 ∷ 0 ∷ [])
     ∷ gives (put 11 2 (by 11 1 1)) (116 ∷ 25 ∷ 0 ∷ 5 ∷ 111 ∷ 0 ∷ 0 ∷ 0 ∷ 0 ∷ [])
-    -- in drops: 20 make a millilitre, so that 13,333 thousandths of a drop are 666.65 of a millilitre
+    -- in drops: 20 make a millilitre, so that 13,333 thousandths of a drop are 666.65 thousandths of a millilitre
     ∷ suppressed 101 (in-unit 303 233 (by 1 13_333 13_333))
     ∷ stands 101 (in-unit 303 233 (by 1 13_334 13_334))
     -- products past 64 bits, which compare the other way round if they are cut: 997 and 999 times the dose against 998 times the limit

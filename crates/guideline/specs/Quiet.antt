@@ -1,6 +1,6 @@
 -- P4, quiet on a missing frequency: document 001, 3.4.2, in its order and under its section numbers. Where step 9 finds no row with the frequency,
 -- `suppresses` says whether the signal is suppressed. It asks for a weight or a surface that matters to the rows per day.
-use Prim.Native.Nat.{ℕ, _*_}
+use Prim.Native.Nat.{_*_}
 use mathlib.Core.Bool.{Bool, false, _&&_}
 use lib.Dec.{eqb, ltb}
 use Rattle.guideline.specs.Types.{Prescription, T643, T649, Question, Ratio, Context, Bounds}
@@ -54,16 +54,18 @@ limits-for limits r = limits (keyed T649 (r .gpddnr))
 unfoldable pub minimum-empty : Table (Row T649) → Row T643 → Bool
 minimum-empty limits r = choose (limits-for limits r) false (λ m. eqb (m .normminimum) no-limit) false
 
--- 3.4.2.3 "Is norm maximum is gevuld?": "bst649.GPNRMMAX > 0.000"
+-- 3.4.2.3 "Is norm maximum is gevuld?": "bst649.GPNRMMAX > 0.000". (Its sentence on GPNRMMAXM and GPNRMMAXK, as that of 3.4.2.2 on GPNRMMINK and
+-- GPNRMMINM, speaks of limits that table 649 does not have here: docs/DIFFERENCES.md.)
 unfoldable pub maximum-given : Row T649 → Bool
 maximum-given m = ltb no-limit (m .normmaximum)
 
--- 3.4.2.4 "Is norm maximum hoger dan ingevoerde keerdosis?" The highest dose, in base units by cross products as in step 12; equal is not above.
+-- 3.4.2.4 "Is norm maximum hoger dan ingevoerde keerdosis?" The highest dose, in base units by cross products as in step 12; equal is not above. ("Bepaal de
+-- hoogste waarde": the highest maximum is above the dose exactly where some one is, and the rules that are go on.)
 unfoldable pub above-dose : Prescription → Ratio → Row T649 → Bool
 above-dose e q m = ltb (e .highest * q .base) (m .normmaximum * q .entered)
 
 -- 3.4.2.5 "Dagdosis lager dan hoogst toegestane dagdosering?": "Vermenigvuldig de waarde van bst649.GPNRMMAX met het frequentie aantal
--- (bst643.GPDFAA)", and "de ingevoerde keerdosis met de ingevoerde frequentie". These products pass 64 bits.
+-- (bst643.GPDFAA)", and "de ingevoerde keerdosis met de ingevoerde frequentie". These products can pass 64 bits.
 unfoldable pub above-day-dose : Prescription → Ratio → Row T643 → Row T649 → Bool
 above-day-dose e q r m = ltb (e .highest * e .count * q .base) (m .normmaximum * r .gpdfaa * q .entered)
 

@@ -1,4 +1,4 @@
-// How a check ends without a comparison.
+// How a check ends before step 12.
 ghost use mathlib.Core.Path.{_≡_};
 ghost use Rattle.guideline.specs.Ask.{no-refusal};
 use crate::rows::TableName;

@@ -1,7 +1,7 @@
 -- What the plan of 3.4.2.1 comes to, by whether a measure matters and is given; and what the code's answer tells of it. Assumes nothing.
 use Prim.Native.Nat.{ℕ}
-use mathlib.Core.Path.{_≡_, refl, subst}
-use mathlib.Core.Bool.{Bool, true, false}
+use mathlib.Core.Path.{_≡_, subst}
+use mathlib.Core.Bool.{true, false}
 use mathlib.Core.List.{List}
 use Rattle.guideline.specs.declared.bounds.Bounds.{Bounds}
 use Rattle.guideline.specs.declared.entries.Datum.{Datum}

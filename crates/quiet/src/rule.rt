@@ -26,7 +26,7 @@ pub enum Judged {
     Free(bool),
 }
 
-// 3.4.2.3 to 3.4.2.5. The day doses pass 64 bits.
+// 3.4.2.3 to 3.4.2.5. The products of the day doses can pass 64 bits.
 fn allows_more(p: Prescription, q: Ratio, row: Row643, m: Row649) -> bool
     requires { ⌜ Products q (m .normmaximum) (p .highest) ⌝ }
     ensures { λ r. ⌜ r ≡ (maximum-given m && (above-dose p q m && above-day-dose p q row m)) ⌝ }

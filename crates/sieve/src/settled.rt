@@ -46,7 +46,7 @@ impl Settled {
         }
     }
 
-    // Step 9. "Same count and unit on one row. If none, same count and the twin unit."
+    // Step 9. "Same count and unit on one row. If none, same count and the twin unit." Or P4's rows per day.
     pub fn by_frequency(self, frequency: Filter) -> Settled
         ensures { λ r. ⌜ r ≡ and-frequency self frequency ⌝ }
     {

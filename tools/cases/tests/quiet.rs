@@ -47,23 +47,23 @@ const GETS: [(&str, &str); 94] = [
     ("3 times 1 to 667", "115"),
     ("once 1 to 1,000", "115"),
     // the third condition, and no question
-    ("per week, for 3", "117"),
-    ("per week, for 2", "116"),
-    ("per week, which has a row for 2", "115"),
+    ("per 2 days, for 3", "117"),
+    ("per 2 days, for 2", "116"),
+    ("per 2 days, which has a row for 2", "115"),
     ("per 18, for 3", "117"),
-    ("per week, weight blank", "117"),
+    ("per 2 days, weight blank", "117"),
     // the first condition
     ("a narrow range", "115"),
-    ("a narrow range, per week, for 2", "116"),
-    ("a narrow range, per week, for 3", "117"),
+    ("a narrow range, per 2 days, for 2", "116"),
+    ("a narrow range, per 2 days, for 3", "117"),
     ("a narrow range, weight blank", "115"),
     // the second: the chosen row's ICPCNR1, whatever its ICPCTO and route
     ("for reason 5000", "115"),
     ("for reason 17552", "115"),
     ("for reason 17751", "115"),
     ("for reason 17753", "115"),
-    ("for reason 5000, per week, for 2", "116"),
-    ("for reason 5000, per week, for 3", "117"),
+    ("for reason 5000, per 2 days, for 2", "116"),
+    ("for reason 5000, per 2 days, for 3", "117"),
     ("for reason 5000, weight blank", "115"),
     ("reason 6000 falls to Q general", "S"),
     ("reason Q general", "S"),
@@ -77,7 +77,7 @@ const GETS: [(&str, &str); 94] = [
     ("239 months, weight blank", "105"),
     ("240 months: no row per day", "117"),
     ("240 months: no row per day, for 2", "116"),
-    ("a row per week has the weights", "S"),
+    ("a row per 2 days has the weights", "S"),
     // rows up to and from 70,000, of which the second has a norm minimum; none from 80,000 on
     ("weight 69,999", "S"),
     ("weight 70,000", "115"),
@@ -130,7 +130,7 @@ const GETS: [(&str, &str); 94] = [
     // n times n allowed at a time, n - 1 times n + 1 entered; then n times n + 1
     ("once 999,999,998, by one", "S"),
     ("once 999,999,999", "115"),
-    // the same in a day, of 999,999,998: twice 499,999,999 and three times 333,333,333 are the numbers beside
+    // the same in a day, with n = 999,999,998: twice 499,999,999 is n, three times 333,333,333 is n + 1
     ("3 times 999,999,997, by one", "S"),
     ("3 times 999,999,998", "115"),
 ];

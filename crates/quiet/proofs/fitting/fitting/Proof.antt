@@ -7,7 +7,6 @@ use Rattle.guideline.specs.declared.refusals.Refusal.the-variants.{Asks}
 use Rattle.guideline.specs.Ask.{Chosen, Refused}
 use Rattle.filter.specs.declared.Filter.the-variants.{FitsMeasure, Matters}
 use Rattle.filter.specs.Filters.{filter643, measure-bounds}
-use Rattle.sieve.specs.declared.settled.Settled.{Settled}
 use Rattle.sieve.specs.Settled.{and-measure, other-filter, kept}
 use Rattle.sieve.proofs.Joined.{measure-joins, other-stays}
 use Rattle.sieve.proofs.Kept.{first-none, first-some, joined-kept}

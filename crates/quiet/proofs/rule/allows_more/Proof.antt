@@ -1,7 +1,6 @@
 -- 64 bits hold the product of two numbers of 32 bits; the day doses are compared by their true products. Assumes nothing.
 use borrow.Author.Needs.{needs}
-use Prim.Native.Nat.{_*_}
-use mathlib.Core.Path.{_∙_, sym, ap₂}
+use mathlib.Core.Path.{_∙_, ap₂}
 use mathlib.Core.Bool.{_&&_, and-assoc}
 use native.Mathlib.Omega.{arith}
 use Rattle.exact.proofs.Parts.{fits}

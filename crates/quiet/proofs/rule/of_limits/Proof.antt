@@ -1,9 +1,7 @@
 -- A norm minimum bars. Assumes nothing.
 use borrow.Author.Needs.{needs}
-use mathlib.Core.Path.{_∙_, sym, ap}
 use borrow.Author.Tests.{eq-eqb, ne-eqb}
 use Rattle.guideline.specs.Values.{no-limit}
-use Rattle.quiet.specs.declared.rule.Judged.the-variants.{Free}
 use Rattle.quiet.proofs.rule.of_limits.Statement.{statement}
 use Rattle.quiet.proofs.rule.of_limits.Tie as tie
 

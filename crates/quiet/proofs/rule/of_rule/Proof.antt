@@ -1,9 +1,6 @@
 -- A rule with no or several rows bars; the one row says what its limits say. They are in range, since step 1 tested the table. Assumes nothing.
 use borrow.Author.Needs.{needs}
-use mathlib.Core.Path.{_≡_, _∙_, sym, ap}
-use mathlib.Core.Bool.{true}
 use denote.Ref.{now}
-use Rattle.guideline.specs.declared.rows.Row649.{Row649}
 use Rattle.guideline.specs.declared.rows.TableName.the-variants.{T649}
 use Rattle.guideline.specs.Bytes.{rows-of}
 use Rattle.guideline.specs.Forms.{choose}

@@ -48,7 +48,7 @@ fn any_row(r: &mut Random, doses: &Doses, bounded: bool, place: u64) -> Row {
     let weight = r.pick(&[OPEN, OPEN, OPEN, (0, 70_000), (70_000, NO_UPPER), (70_000, 80_000), (0, 80_000)]);
     let surface = r.pick(&[OPEN, OPEN, OPEN, OPEN, (0, 1_500), (1_500, NO_UPPER), (1_500, 2_000)]);
     let age = r.pick(&[OPEN, OPEN, OPEN, OPEN, OPEN, (0, 240_000), (240_000, NO_UPPER)]);
-    let unit = if r.percent(88) { PER_DAY } else { r.pick(&[PER_WEEK, 20, 18, 0, 35]) };
+    let unit = if r.percent(88) { PER_DAY } else { r.pick(&[PER_2_DAYS, 20, 18, 0, 35]) };
     Row { unit, age, weight, surface, ..row(doses.row_count(r), rule) }
 }
 

@@ -15,8 +15,8 @@ pub enum One {
     NormMinimum,
 }
 
-/// Each row has a rule of its own, with a norm maximum of 1,000 for 1 per day; at one place is what decides. K1 for 3,
-/// with 600 at a time: 1,800 a day.
+/// Each row has a rule of its own with a norm maximum of 1,000. Where one suppresses, it is for 2 per day and the others
+/// for 1; where one prevents it, all are for 2. K1 for 3, with 600 at a time: 1,800 a day.
 pub fn full(one: One, place: u64, rises: bool, r: &mut Random) -> Case {
     let mut case = Case::empty();
     let rule = |place: u64| KEY as u64 + 1 + place;

@@ -61,7 +61,7 @@ pub fn set(entries: &mut [Numbers], r: &mut Random) {
 /// them.
 pub const KEY: u32 = 8_000_000;
 const PER_DAY: u64 = 19;
-const PER_WEEK: u64 = 21;
+const PER_2_DAYS: u64 = 21;
 
 type Bounds = (u64, u64);
 const OPEN: Bounds = (0, NO_UPPER);

@@ -35,7 +35,7 @@ const LIMITS: [[u64; 4]; 11] = [
 ];
 
 const TWO: Row = row(2, R1000);
-const WEEKLY: Row = Row { unit: PER_WEEK, ..TWO };
+const EVERY_TWO_DAYS: Row = Row { unit: PER_2_DAYS, ..TWO };
 const LIGHT: Bounds = (0, 70_000);
 const HEAVY: Bounds = (70_000, 80_000);
 const SMALL: Bounds = (0, 1_500);
@@ -50,10 +50,10 @@ pub const NARROW: usize = 2;
 pub const NARROW_BY_WEIGHT: usize = 3;
 pub const OTHER: usize = 4;
 pub const OTHER_BY_WEIGHT: usize = 5;
-pub const DAY_AND_WEEK: usize = 6;
-pub const WEEK: usize = 7;
+pub const DAY_AND_TWO_DAYS: usize = 6;
+pub const TWO_DAYS: usize = 7;
 pub const YOUNG: usize = 8;
-pub const WEEK_BY_WEIGHT: usize = 9;
+pub const TWO_DAYS_BY_WEIGHT: usize = 9;
 pub const WEIGHTS: usize = 10;
 pub const SURFACES: usize = 11;
 pub const BOTH: usize = 12;
@@ -85,10 +85,10 @@ const PRODUCTS: [Product; 31] = [
     (1, &[GENERAL], BY_WEIGHT),
     (0, &[[5_000, 0, 0], [17_552, 0, 0], [17_751, 0, 0], [17_753, 0, 0]], &[TWO]),
     (0, &[[5_000, 0, 0]], BY_WEIGHT),
-    (0, &[GENERAL], &[TWO, WEEKLY]),
-    (0, &[GENERAL], &[Row { weight: LIGHT, ..WEEKLY }]),
-    (0, &[GENERAL], &[Row { age: (0, 240_000), weight: LIGHT, ..TWO }, WEEKLY]),
-    (0, &[GENERAL], &[TWO, Row { weight: LIGHT, surface: SMALL, ..Row { rule: MINIMUM, ..WEEKLY } }]),
+    (0, &[GENERAL], &[TWO, EVERY_TWO_DAYS]),
+    (0, &[GENERAL], &[Row { weight: LIGHT, ..EVERY_TWO_DAYS }]),
+    (0, &[GENERAL], &[Row { age: (0, 240_000), weight: LIGHT, ..TWO }, EVERY_TWO_DAYS]),
+    (0, &[GENERAL], &[TWO, Row { weight: LIGHT, surface: SMALL, ..Row { rule: MINIMUM, ..EVERY_TWO_DAYS } }]),
     (0, &[GENERAL], &[Row { weight: LIGHT, ..TWO }, Row { weight: HEAVY, ..row(2, MINIMUM) }]),
     (0, &[GENERAL], &[Row { surface: SMALL, ..TWO }, Row { surface: LARGE, ..row(2, MINIMUM) }]),
     (0, &[GENERAL], &[Row { weight: LIGHT, ..TWO }, Row { weight: HEAVY, surface: SMALL, ..TWO }]),
