@@ -1,7 +1,6 @@
 pub mod Finding
-pub mod Lining
+pub mod Ending
 pub mod Moving
-pub mod Parts
 pub mod Taking
 pub mod Pieces
 pub mod Examples

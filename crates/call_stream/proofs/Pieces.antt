@@ -11,10 +11,11 @@ use lib.Seq.{take-append-le, drop-append-le}
 use Rattle.numbers.specs.Words.{word}
 use Rattle.numbers.proofs.ReadBack.{word-on, long-on}
 use Rattle.records.specs.Digits.{chars}
-use Rattle.call_stream.specs.Calls.{front, front-730, most-bytes, reached, found-730, found}
+use Rattle.call_lines.specs.Lines.{front, front-730, front-070, most-bytes}
+use Rattle.call_stream.specs.Calls.{reached, asked, of-file, found}
 use Rattle.call_stream.specs.Lines.{line-of}
 use Rattle.call_stream.specs.declared.calls.Found.{Found}
-use Rattle.call_stream.specs.declared.calls.Found.the-variants.{Read730, Write730, More, Broken}
+use Rattle.call_stream.specs.declared.calls.Found.the-variants.{Read730, Write730, Read070, Write070, More, Broken}
 use Rattle.call_stream.proofs.Finding.{Bounded, bounded}
 
 chars-on : (s t : List ℕ) (at n : ℕ) → at + n ≤ length s → chars (s ++ t) at n ≡ chars s at n
@@ -32,11 +33,16 @@ reached-on whole before n have more settled = split (leb (before + n) have) refl
     split true e = rw (e, le-leb (before + n) (have + more) (omega (arith, leb-true (before + n) have e)))
     split false e = absurd (settled (rw e))
 
-on-730 : (what n have more : ℕ) → (found-730 what n have ≡ More → ⊥) → found-730 what n (have + more) ≡ found-730 what n have
-unfolding found-730
-on-730 what n have more =
-    alike (eqb what 0) _ _ _ _ (reached-on Read730 front n have more)
-    (alike (eqb what 1) _ _ _ _ (reached-on Write730 front-730 n have more) (λ _. refl))
+asked-on : (read write : ℕ → Found) (before what n have more : ℕ) → (asked read write before what n have ≡ More → ⊥) → asked read write before what n (have + more) ≡ asked read write before what n have
+unfolding asked
+asked-on read write before what n have more =
+    alike (eqb what 0) _ _ _ _ (reached-on read front n have more)
+    (alike (eqb what 1) _ _ _ _ (reached-on write before n have more) (λ _. refl))
+
+file-on : (file what n have more : ℕ) → (of-file file what n have ≡ More → ⊥) → of-file file what n (have + more) ≡ of-file file what n have
+file-on file what n have more =
+    alike (eqb file 730) _ _ _ _ (asked-on Read730 Write730 front-730 what n have more)
+    (alike (eqb file 70) _ _ _ _ (asked-on Read070 Write070 front-070 what n have more) (λ _. refl))
 
 pub found-on : (s t : List ℕ) → (found s ≡ More → ⊥) → found (s ++ t) ≡ found s
 unfolding found
@@ -47,10 +53,7 @@ found-on s t settled = split (leb front (length s)) refl
         let h = leb-true front (length s) e in
         let f : front ≤ length s + length t = omega arith in
         rw (length-append s t, le-leb front (length s + length t) f, e, word-on s t 8 (omega arith), word-on s t 0 (omega arith), word-on s t 4 (omega arith))
-        (alike (leb (word s 8) most-bytes) _ _ _ _
-        (alike (eqb (word s 0) 730) _ _ _ _ (on-730 (word s 4) (word s 8) (length s) (length t)) (λ _. refl))
-        (λ _. refl)
-        (λ q. settled (rw e q)))
+        (alike (leb (word s 8) most-bytes) _ _ _ _ (file-on (word s 0) (word s 4) (word s 8) (length s) (length t)) (λ _. refl) (λ q. settled (rw e q)))
     split false e = absurd (settled (rw e))
 
 line-same : (f : Found) (s t : List ℕ) → Bounded (length s) f → line-of f (s ++ t) ≡ line-of f s
@@ -65,6 +68,19 @@ line-same (Write730 n) s t b =
       word-on s t 40 (omega (arith, b .0)),
       long-on s t 12 (omega (arith, b .0)),
       chars-on s t front-730 n (b .0),
+    )
+line-same (Read070 n) s t b = rw (chars-on s t front n (b .0))
+line-same (Write070 n) s t b =
+    rw (
+      word-on s t 20 (omega (arith, b .0)),
+      word-on s t 24 (omega (arith, b .0)),
+      word-on s t 28 (omega (arith, b .0)),
+      word-on s t 32 (omega (arith, b .0)),
+      word-on s t 36 (omega (arith, b .0)),
+      word-on s t 40 (omega (arith, b .0)),
+      word-on s t 44 (omega (arith, b .0)),
+      long-on s t 12 (omega (arith, b .0)),
+      chars-on s t front-070 n (b .0),
     )
 line-same More s t b = refl
 line-same Broken s t b = refl

@@ -5,11 +5,12 @@ use mathlib.Core.Path.{_≡_, _∙_}
 use native.Mathlib.Omega.{arith}
 use lib.ListN.{length}
 use Rattle.decimals.specs.Put.{Put}
+use Rattle.call_lines.specs.Lines.{longest-line}
 use Rattle.call_stream.specs.Calls.{longest-call, found}
 use Rattle.call_stream.specs.Lines.{line-of, after}
-use Rattle.call_stream.specs.Takes.{longest-line, taken, Takes}
+use Rattle.call_stream.specs.Takes.{taken, Takes}
 use Rattle.call_stream.specs.declared.calls.Found.{Found}
-use Rattle.call_stream.specs.declared.calls.Found.the-variants.{Read730, Write730, More, Broken}
+use Rattle.call_stream.specs.declared.calls.Found.the-variants.{Read730, Write730, Read070, Write070, More, Broken}
 use Rattle.call_stream.specs.declared.Taken.{Taken}
 use Rattle.call_stream.specs.declared.Taken.the-variants as T
 use Rattle.call_stream.proofs.Finding.{Bounded, bounded}
@@ -40,6 +41,8 @@ inside-taken : (f : Found) (have end room : ℕ) → Bounded have f → end ≤ 
 unfolding taken
 inside-taken (Read730 n) have end room b e = (b .0, e)
 inside-taken (Write730 n) have end room b e = (b .0, e)
+inside-taken (Read070 n) have end room b e = (b .0, e)
+inside-taken (Write070 n) have end room b e = (b .0, e)
 inside-taken More have end room b e = b
 inside-taken Broken have end room b e = e
 

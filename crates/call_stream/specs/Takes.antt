@@ -4,21 +4,20 @@ use mathlib.Core.List.{List}
 use mathlib.Core.Path.{_≡_}
 use lib.ListN.{length}
 use lib.Seq.{sets}
-use Rattle.call_stream.specs.Calls.{front, front-730, found}
+use Rattle.call_lines.specs.Lines.{front, front-730, front-070, longest-line}
+use Rattle.call_stream.specs.Calls.{found}
 use Rattle.call_stream.specs.Lines.{line-of, after}
 use Rattle.call_stream.specs.declared.calls.Found.{Found}
-use Rattle.call_stream.specs.declared.calls.Found.the-variants.{Read730, Write730, More, Broken}
+use Rattle.call_stream.specs.declared.calls.Found.the-variants.{Read730, Write730, Read070, Write070, More, Broken}
 use Rattle.call_stream.specs.declared.Taken.{Taken}
 use Rattle.call_stream.specs.declared.Taken.the-variants as T
-
--- room for any number, the largest buffer in hexadecimal and a line feed
-abbrev pub longest-line : ℕ
-longest-line = 8_214
 
 -- how many bytes the call has, and where its line ends
 unfoldable pub taken : Found → ℕ → Taken
 taken (Read730 n) end = T.Answered (record { call = front + n; end = end })
 taken (Write730 n) end = T.Answered (record { call = front-730 + n; end = end })
+taken (Read070 n) end = T.Answered (record { call = front + n; end = end })
+taken (Write070 n) end = T.Answered (record { call = front-070 + n; end = end })
 taken More end = T.More
 taken Broken end = T.Broken end
 

@@ -1,24 +1,25 @@
-// A stream of calls of the readers and writers of records: from a call's bytes to the line of its answer. A file's calls are a module and its cases of `Found`.
+// A stream of calls of the readers and writers of records: where a call ends, and from its bytes to the line of its answer. A file's calls are its cases of `Found`.
 ghost use mathlib.Core.Path.{_≡_};
 ghost use Prim.Native.Nat.{_+_, _-_, _≤_};
 ghost use lib.ListN.{length};
 ghost use lib.Seq.{sets};
 ghost use Rattle.decimals.specs.Put.{Put};
 ghost use Rattle.records.specs.Digits.{chars};
+ghost use Rattle.call_lines.specs.Lines.{longest-line};
 ghost use Rattle.call_stream.specs.Lines.{last-line};
-ghost use Rattle.call_stream.specs.Takes.{longest-line, Takes};
+ghost use Rattle.call_stream.specs.Takes.{Takes};
 
 mod calls;
-mod file_730;
-mod hex;
-mod lines;
 
-use crate::calls::FRONT;
-use crate::calls::FRONT_730;
 use crate::calls::Found;
 use crate::calls::find;
-use crate::file_730::put_read_730;
-use crate::file_730::put_write_730;
+use call_lines::FRONT;
+use call_lines::file_070::FRONT_070;
+use call_lines::file_070::put_read_070;
+use call_lines::file_070::put_write_070;
+use call_lines::file_730::FRONT_730;
+use call_lines::file_730::put_read_730;
+use call_lines::file_730::put_write_730;
 use decimals::put_text;
 
 // Room for any line.
@@ -50,6 +51,14 @@ pub fn take_call(s: &mut [u8], out: &mut [u8], at: usize) -> Taken
         Found::Write730(n) => Taken::Answered(Spans {
             call: FRONT_730 + n,
             end: put_write_730(s, n, out, at),
+        }),
+        Found::Read070(n) => Taken::Answered(Spans {
+            call: FRONT + n,
+            end: put_read_070(s, n, out, at),
+        }),
+        Found::Write070(n) => Taken::Answered(Spans {
+            call: FRONT_070 + n,
+            end: put_write_070(s, n, out, at),
         }),
         Found::More => Taken::More,
         Found::Broken => Taken::Broken(put_text(out, at, b"broken\n")),

@@ -7,7 +7,7 @@ use Rattle.guideline.specs.Check.{check}
 use Rattle.guideline.specs.declared.answer.Answer.{Answer}
 use Rattle.guideline.specs.declared.entries.Entry.{Entry}
 use Rattle.guideline.specs.declared.rows.TableName.{TableName}
-use Rattle.guideline.specs.declared.rows.TableName.the-variants.{T640, T641, T642, T643, T649, T730}
+use Rattle.guideline.specs.declared.rows.TableName.the-variants.{T640, T641, T642, T643, T649, T730, T070}
 use Rattle.stream.specs.Cases.{tables-of, entry-of, wanted-of}
 use Rattle.stream.specs.declared.cases.Form.{Form}
 use Rattle.stream.specs.declared.cases.Form.the-variants.{Single, Range}
@@ -23,16 +23,17 @@ module _ (b : List ℕ) where
   pub named : {l : List ℕ} (m n : TableName) → l ≡ tables-of b m → m ≡ n → l ≡ tables-of b n
   named m n e h = e ∙ ap (tables-of b) h
 
-  pub six : {t640 t641 t642 t643 t649 t730 : List ℕ} → t640 ≡ tables-of b T640 → t641 ≡ tables-of b T641 → t642 ≡ tables-of b T642 → t643 ≡ tables-of b T643 → t649 ≡ tables-of b T649 → t730 ≡ tables-of b T730 → lents t640 t641 t642 t643 t649 t730 ≡ tables-of b
-  six {t640} {t641} {t642} {t643} {t649} {t730} p q r s t u = fun-ext each
+  pub all-tables : {t640 t641 t642 t643 t649 t730 t070 : List ℕ} → t640 ≡ tables-of b T640 → t641 ≡ tables-of b T641 → t642 ≡ tables-of b T642 → t643 ≡ tables-of b T643 → t649 ≡ tables-of b T649 → t730 ≡ tables-of b T730 → t070 ≡ tables-of b T070 → lents t640 t641 t642 t643 t649 t730 t070 ≡ tables-of b
+  all-tables {t640} {t641} {t642} {t643} {t649} {t730} {t070} p q r s t u v = fun-ext each
     where
-      each : (n : TableName) → lents t640 t641 t642 t643 t649 t730 n ≡ tables-of b n
+      each : (n : TableName) → lents t640 t641 t642 t643 t649 t730 t070 n ≡ tables-of b n
       each T640 = p
       each T641 = q
       each T642 = r
       each T643 = s
       each T649 = t
       each T730 = u
+      each T070 = v
 
 -- what is written for an entry, over tables and of an entry that are those of the case
 module _ (f : Form) (b : List ℕ) (i : ℕ) {t : Lents} {e : Entry} where

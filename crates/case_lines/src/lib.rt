@@ -41,6 +41,7 @@ pub fn test_tables(case: &[u8]) -> Test
         table(case, TableName::T643),
         table(case, TableName::T649),
         table(case, TableName::T730),
+        table(case, TableName::T070),
     ))
 }
 
@@ -66,18 +67,32 @@ fn put_entry(
     t643: &[u8],
     t649: &[u8],
     t730: &[u8],
+    t070: &[u8],
     out: &mut [u8],
     at: usize,
 ) -> usize
-    requires { ⌜ Whole form (now case) × (i < entry-count (now case)) × Fitting test (tables-of (now case)) × (lents (now t640) (now t641) (now t642) (now t643) (now t649) (now t730) ≡ tables-of (now case)) × (at + longest-text form ≤ length (now out)) ⌝ }
+    requires { ⌜ Whole form (now case) × (i < entry-count (now case)) × Fitting test (tables-of (now case)) × (lents (now t640) (now t641) (now t642) (now t643) (now t649) (now t730) (now t070) ≡ tables-of (now case)) × (at + longest-text form ≤ length (now out)) ⌝ }
     ensures { λ r. ⌜ Put (now (out .entry)) at (lines-of form (now (case .entry)) i) (now (out .exit)) r × (r ≤ at + longest-text form) ⌝ }
 {
     let e = stream::cases::entry(form, case, i);
     match form {
-        Form::Single => single::put(test, t640, t641, t642, t643, t649, t730, e, out, at),
+        Form::Single => single::put(test, t640, t641, t642, t643, t649, t730, t070, e, out, at),
         Form::Range => {
             let w = stream::cases::wanted_of(case, i);
-            range::put(test, t640, t641, t642, t643, t649, t730, e, w, out, at)
+            range::put(
+                test,
+                t640,
+                t641,
+                t642,
+                t643,
+                t649,
+                t730,
+                t070,
+                e,
+                w,
+                out,
+                at,
+            )
         }
     }
 }
@@ -93,11 +108,12 @@ fn put_lines(
     t643: &[u8],
     t649: &[u8],
     t730: &[u8],
+    t070: &[u8],
     from: usize,
     out: &mut [u8],
     at: usize,
 ) -> Progress
-    requires { ⌜ Ready f (now case) t from (length (now out)) at × (lents (now t640) (now t641) (now t642) (now t643) (now t649) (now t730) ≡ tables-of (now case)) ⌝ }
+    requires { ⌜ Ready f (now case) t from (length (now out)) at × (lents (now t640) (now t641) (now t642) (now t643) (now t649) (now t730) (now t070) ≡ tables-of (now case)) ⌝ }
     ensures { λ r. ⌜ Answered f (now (case .entry)) from (now (out .entry)) at (now (out .exit)) r ⌝ }
 {
     let n = stream::cases::entry_count(case);
@@ -112,7 +128,21 @@ fn put_lines(
                 more: true,
             };
         }
-        end = put_entry(f, case, i, t, t640, t641, t642, t643, t649, t730, out, end);
+        end = put_entry(
+            f,
+            case,
+            i,
+            t,
+            t640,
+            t641,
+            t642,
+            t643,
+            t649,
+            t730,
+            t070,
+            out,
+            end,
+        );
         i += 1;
     }
     Progress {
@@ -140,6 +170,7 @@ pub fn lines(
     let t643 = table(case, TableName::T643);
     let t649 = table(case, TableName::T649);
     let t730 = table(case, TableName::T730);
+    let t070 = table(case, TableName::T070);
     put_lines(
         form,
         case,
@@ -150,6 +181,7 @@ pub fn lines(
         t643,
         t649,
         t730,
+        t070,
         from,
         out,
         at,

@@ -32,16 +32,29 @@ fn answer(
     t643: &[u8],
     t649: &[u8],
     t730: &[u8],
+    t070: &[u8],
     e: Entry,
     first: u32,
     last: u32,
     list: &mut [u32],
 ) -> Counted
-    requires { ⌜ Fitting test (lents (now t640) (now t641) (now t642) (now t643) (now t649) (now t730)) ⌝ }
-    ensures { λ r. ⌜ AnswersEach (lents (now (t640 .entry)) (now (t641 .entry)) (now (t642 .entry)) (now (t643 .entry)) (now (t649 .entry)) (now (t730 .entry))) e first last (now (list .entry)) (now (list .exit)) r ⌝ }
+    requires { ⌜ Fitting test (lents (now t640) (now t641) (now t642) (now t643) (now t649) (now t730) (now t070)) ⌝ }
+    ensures { λ r. ⌜ AnswersEach (lents (now (t640 .entry)) (now (t641 .entry)) (now (t642 .entry)) (now (t643 .entry)) (now (t649 .entry)) (now (t730 .entry)) (now (t070 .entry))) e first last (now (list .entry)) (now (list .exit)) r ⌝ }
 {
     match test {
-        Test::ByCheck => check_each(t640, t641, t642, t643, t649, t730, e, first, last, list),
+        Test::ByCheck => check_each(
+            t640,
+            t641,
+            t642,
+            t643,
+            t649,
+            t730,
+            t070,
+            e,
+            first,
+            last,
+            list,
+        ),
         Test::Once(s) => check_each_after(
             s,
             t640,
@@ -50,6 +63,7 @@ fn answer(
             t643,
             t649,
             t730,
+            t070,
             e,
             first,
             last,
@@ -93,14 +107,15 @@ fn put_by(
     t643: &[u8],
     t649: &[u8],
     t730: &[u8],
+    t070: &[u8],
     e: Entry,
     w: Wanted,
     list: &mut [u32],
     out: &mut [u8],
     at: usize,
 ) -> usize
-    requires { ⌜ Fitting test (lents (now t640) (now t641) (now t642) (now t643) (now t649) (now t730)) × (length (now list) ≡ w .places * answer-length) × (at + longest-range ≤ length (now out)) ⌝ }
-    ensures { λ r. ⌜ Put (now (out .entry)) at (range-lines (spelled (lents (now (t640 .entry)) (now (t641 .entry)) (now (t642 .entry)) (now (t643 .entry)) (now (t649 .entry)) (now (t730 .entry)))) e w) (now (out .exit)) r × (r ≤ at + longest-range) ⌝ }
+    requires { ⌜ Fitting test (lents (now t640) (now t641) (now t642) (now t643) (now t649) (now t730) (now t070)) × (length (now list) ≡ w .places * answer-length) × (at + longest-range ≤ length (now out)) ⌝ }
+    ensures { λ r. ⌜ Put (now (out .entry)) at (range-lines (spelled (lents (now (t640 .entry)) (now (t641 .entry)) (now (t642 .entry)) (now (t643 .entry)) (now (t649 .entry)) (now (t730 .entry)) (now (t070 .entry)))) e w) (now (out .exit)) r × (r ≤ at + longest-range) ⌝ }
 {
     let counted = answer(
         test,
@@ -110,6 +125,7 @@ fn put_by(
         t643,
         t649,
         t730,
+        t070,
         e,
         w.first,
         w.last,
@@ -126,13 +142,14 @@ pub fn put(
     t643: &[u8],
     t649: &[u8],
     t730: &[u8],
+    t070: &[u8],
     e: Entry,
     w: Wanted,
     out: &mut [u8],
     at: usize,
 ) -> usize
-    requires { ⌜ Fitting test (lents (now t640) (now t641) (now t642) (now t643) (now t649) (now t730)) × (w .places ≤ most-places) × (at + longest-range ≤ length (now out)) ⌝ }
-    ensures { λ r. ⌜ Put (now (out .entry)) at (range-lines (spelled (lents (now (t640 .entry)) (now (t641 .entry)) (now (t642 .entry)) (now (t643 .entry)) (now (t649 .entry)) (now (t730 .entry)))) e w) (now (out .exit)) r × (r ≤ at + longest-range) ⌝ }
+    requires { ⌜ Fitting test (lents (now t640) (now t641) (now t642) (now t643) (now t649) (now t730) (now t070)) × (w .places ≤ most-places) × (at + longest-range ≤ length (now out)) ⌝ }
+    ensures { λ r. ⌜ Put (now (out .entry)) at (range-lines (spelled (lents (now (t640 .entry)) (now (t641 .entry)) (now (t642 .entry)) (now (t643 .entry)) (now (t649 .entry)) (now (t730 .entry)) (now (t070 .entry)))) e w) (now (out .exit)) r × (r ≤ at + longest-range) ⌝ }
 {
     let mut list = [0u32; LIST];
     let n = w.places as usize * Answer::LENGTH;
@@ -144,6 +161,7 @@ pub fn put(
         t643,
         t649,
         t730,
+        t070,
         e,
         w,
         &mut list[..n],

@@ -1,4 +1,4 @@
--- What a question about the rows of a lent table is answered, by their tally. A seventh table is one more case of the laws at the end.
+-- What a question about the rows of a lent table is answered, by their tally. One more table is one more case of the laws at the end.
 -- Assumes nothing.
 use Prim.Native.Nat.{ℕ, _<_, _≤_}
 use mathlib.Core.Path.{_≡_, refl, _∙_, ap}
@@ -9,7 +9,7 @@ use lib.Dec.{eqb}
 use mathlib.Core.List.{List}
 use Rattle.guideline.specs.Table.{some, number}
 use Rattle.guideline.specs.declared.rows.TableName.{TableName}
-use Rattle.guideline.specs.declared.rows.TableName.the-variants.{T640, T641, T642, T643, T649, T730}
+use Rattle.guideline.specs.declared.rows.TableName.the-variants.{T640, T641, T642, T643, T649, T730, T070}
 use Rattle.guideline.specs.declared.view.View.{View}
 use Rattle.guideline.specs.Rows.{Row, width, read-row, key}
 use Rattle.guideline.specs.Bytes.{seen}
@@ -48,6 +48,7 @@ width-most T642 = omega arith
 width-most T643 = omega arith
 width-most T649 = omega arith
 width-most T730 = omega arith
+width-most T070 = omega arith
 
 -- the key of a row is the number that it is said to be, and a number of the row
 pub key-read : (n : TableName) (f : ℕ → ℕ) → key n (read-row n f) ≡ f (key-at n)
@@ -57,6 +58,7 @@ key-read T642 f = refl
 key-read T643 f = refl
 key-read T649 f = refl
 key-read T730 f = refl
+key-read T070 f = refl
 
 pub key-inside : (n : TableName) → key-at n < width n
 key-inside T640 = omega arith
@@ -65,6 +67,7 @@ key-inside T642 = omega arith
 key-inside T643 = omega arith
 key-inside T649 = omega arith
 key-inside T730 = omega arith
+key-inside T070 = omega arith
 
 pub width-some : (n : TableName) → 0 < width n
 width-some n = let h : key-at n < width n = key-inside n in omega arith
@@ -78,3 +81,4 @@ reads T643 f g h =
     rw (h 0 (omega arith), h 1 (omega arith), h 2 (omega arith), h 3 (omega arith), h 4 (omega arith), h 5 (omega arith), h 6 (omega arith), h 7 (omega arith), h 8 (omega arith), h 9 (omega arith))
 reads T649 f g h = rw (h 0 (omega arith), h 1 (omega arith), h 2 (omega arith), h 3 (omega arith))
 reads T730 f g h = rw (h 0 (omega arith), h 1 (omega arith), h 2 (omega arith), h 3 (omega arith), h 4 (omega arith))
+reads T070 f g h = rw (h 0 (omega arith), h 1 (omega arith), h 2 (omega arith), h 3 (omega arith), h 4 (omega arith), h 5 (omega arith))

@@ -22,7 +22,7 @@ use Rattle.filter.specs.Filters.{measure-bounds}
 use Rattle.sieve.specs.declared.settled.Settled.{Settled}
 use Rattle.dose_row.specs.declared.by_measure.Measured.{Measured}
 use Rattle.dose_row.specs.declared.by_measure.Measured.the-variants.{Rows, Refused as NoRows}
-use Rattle.sieve.specs.Settled.{kept, other-filter}
+use Rattle.sieve.specs.Settled.{kept, other-value}
 
 abbrev pub question-of : Measure → Question
 question-of Weight = WeightOfRow
@@ -41,7 +41,7 @@ refusal-of (NoRows r) = r
 abbrev pub Leaves : List ℕ → View → Settled → Measure → Value → Measured → Type 0
 Leaves l v s m x (Rows u w) =
     Fits (width T643) u (length l)
-    × (other-filter m w ≡ other-filter m s)
+    × (other-value m w ≡ other-value m s)
     × ((d : Datum → Value) → d (asks-for (question-of m)) ≡ x → run d (by-measure (question-of m) (ending-of m) (measure-bounds m) (kept l v s)) ≡ Chosen (kept l u w))
 Leaves l v s m x (NoRows why) =
     (d : Datum → Value) → d (asks-for (question-of m)) ≡ x → run d (by-measure (question-of m) (ending-of m) (measure-bounds m) (kept l v s)) ≡ Refused why tt

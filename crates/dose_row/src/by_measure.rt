@@ -1,12 +1,12 @@
 // Step 10, of one measure of the patient: the rows that are left, or the refusal.
 ghost use mathlib.Core.Path.{_≡_};
 ghost use lib.ListN.{length};
+ghost use Rattle.guideline.specs.declared.entries.Value.the-variants.{Blank};
 ghost use Rattle.guideline.specs.declared.rows.TableName.the-variants.{T643};
 ghost use Rattle.guideline.specs.Rows.{width};
 ghost use Rattle.cells.specs.Views.{Fits};
-ghost use Rattle.filter.specs.declared.Filter.the-variants.{Every};
 ghost use Rattle.dose_row.specs.Measured.{question-of, ending-of, refusal-of, Leaves};
-ghost use Rattle.sieve.specs.Settled.{own-filter};
+ghost use Rattle.sieve.specs.Settled.{own-value};
 use filter::Filter;
 use filter::Measure;
 use guideline::entries::Value;
@@ -54,7 +54,7 @@ fn ending_of(m: Measure) -> Ending
 
 // "Weight matters if some remaining row has low above 0 or high below 999,999. Then blank 105; keep" rows that fit it (P1); "none 118. Surface the same, 106 and 119."
 pub fn by_measure(t643: &[u8], v: View, s: Settled, m: Measure, value: Value) -> Measured
-    requires { ⌜ Fits (width T643) v (length (now t643)) × (own-filter m s ≡ Every) ⌝ }
+    requires { ⌜ Fits (width T643) v (length (now t643)) × (own-value m s ≡ Blank) ⌝ }
     ensures { λ r. ⌜ Leaves (now (t643 .entry)) v s m value r ⌝ }
 {
     if s.first(t643, v, Filter::Matters(m)) == v.rows {

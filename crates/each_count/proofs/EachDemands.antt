@@ -2,7 +2,7 @@
 -- count. A range's promise is that the list `AnswersEach`; each theorem here speaks of lists only. Assumes nothing.
 use Prim.Native.Nat.{ℕ, _+_, _*_, _≤_, _<_}
 use mathlib.Core.Bool.{true}
-use mathlib.Core.List.{List}
+use mathlib.Core.List.{List, []}
 use mathlib.Core.Path.{_≡_, refl, sym, _∙_, ap, subst}
 use lib.Dec.{T}
 use lib.ListN.{getD, drop}
@@ -13,11 +13,13 @@ use Rattle.guideline.specs.declared.counted.RangeRefusal.{RangeRefusal}
 use Rattle.guideline.specs.declared.entries.Value.the-variants.{Blank}
 use Rattle.guideline.specs.declared.entries.Switch.the-variants.{NotGiven, Position}
 use Rattle.guideline.specs.declared.entries.Entry.{Entry}
+use Rattle.guideline.specs.declared.rows.TableName.the-variants.{T070}
 use Rattle.guideline.specs.declared.entries.Datum.{Datum}
+use Rattle.guideline.specs.declared.entries.Datum.the-variants.{Hpk}
 use Rattle.guideline.specs.Bytes.{Lents, spelled}
 use Rattle.guideline.specs.Values.{on}
 use Rattle.guideline.specs.Entries.{datum, permitted, with-count, with-months}
-use Rattle.guideline.specs.Check.{answer-length, numbers-of, outcome, place-of, check}
+use Rattle.guideline.specs.Check.{after-filling, answer-length, numbers-of, outcome, place-of, check}
 use Rattle.guideline.specs.Counts.{on-unless-given, numbers-at}
 use Rattle.guideline.specs.ProofTable.{proof-table, bytes-printed}
 use Rattle.guideline.proofs.CountExamples.{ranges, ranges-of-months, all-hold, counts-of-K1-as-bytes, months-in-ranges-as-bytes}
@@ -25,11 +27,13 @@ use Rattle.guideline.proofs.CountLaws.{place-answered, rest-behind}
 use Rattle.guideline.proofs.Months.{range-not-given-is-on}
 use Rattle.guideline.proofs.TwinTraps.{twin-tables}
 use Rattle.guideline.proofs.Fill.{fill, asking}
+use Rattle.guideline.proofs.NoTable70.{check-without-70}
+use Rattle.guideline.proofs.Same.{BlankAfterFilling}
 use Rattle.guideline.proofs.Shuffle.{ReorderedBytes}
 use Rattle.guideline.proofs.Shapes.{right, at-least-1}
 use Rattle.guideline.proofs.Listed.{listed}
 use Rattle.dosecheck.specs.Answers.{Answers}
-use Rattle.dosecheck.proofs.Demands.{demand-1, demand-3-same, demand-3-later, reordering}
+use Rattle.dosecheck.proofs.Demands.{demand-1, demand-3-same, demand-3-later, without-table-70, reordering}
 use Rattle.each_count.specs.Each.{AnswersEach}
 use Rattle.each_count.proofs.Lists.{refused-list, answers-list}
 
@@ -40,6 +44,10 @@ answer-at i list = getD (numbers-at i list) 0 0
 -- one of 101 to 106
 abbrev Asks : ℕ → Type 0
 Asks n = (101 ≤ n) × (n ≤ 106)
+
+-- the entry of the place for a count
+abbrev pub of-place : Entry → ℕ → Entry
+of-place e count = with-count count (on-unless-given e)
 
 module _ (b : Lents) (first last : ℕ) where
   -- the promise admits one result and one list only
@@ -77,8 +85,9 @@ module _ (b : Lents) (first last : ℕ) where
       let d = demand-1 b (with-count (first + i) (on-unless-given e)) refl in
       (check (spelled b) (with-count (first + i) (on-unless-given e)), place-answers e old new n i p h refl, d .0, d .1)
 
-  -- Demand 3, first half, for each place: an answer other than 101 to 106 stays the same, all its numbers, whatever blank is filled.
-  pub demand-3-same-each : (e : Entry) (q : Datum) (v : ℕ) (old new old' new' : List ℕ) (n n' i : ℕ) → AnswersEach b e first last old new (All n) → AnswersEach b (fill q v e) first last old' new' (All n') → i < n → i < n' → (Asks (answer-at i new) → ⊥) → datum (e .known) q ≡ Blank → permitted q v ≡ true → numbers-at i new' ≡ numbers-at i new
+  -- Demand 3, first half, for each place: an answer other than 101 to 106 stays the same, all its numbers, whatever blank of the place's entry after filling,
+  -- age, sex, PRK, weight or surface, is filled.
+  pub demand-3-same-each : (e : Entry) (q : Datum) (v : ℕ) (old new old' new' : List ℕ) (n n' i : ℕ) → AnswersEach b e first last old new (All n) → AnswersEach b (fill q v e) first last old' new' (All n') → i < n → i < n' → (Asks (answer-at i new) → ⊥) → BlankAfterFilling (spelled b) (of-place e (first + i)) q → permitted q v ≡ true → numbers-at i new' ≡ numbers-at i new
   unfolding fill
   demand-3-same-each e q v old new old' new' n n' i p p' h h' other blank allowed =
       let f = with-count (first + i) (on-unless-given e) in
@@ -86,13 +95,19 @@ module _ (b : Lents) (first last : ℕ) where
       let there = place-answers (fill q v e) old' new' n' i p' h' refl in
       there ∙ ap numbers-of (demand-3-same b f q v refl refl (λ x. other (subst Asks (sym (ap (λ l. getD l 0 0) here)) x)) blank allowed) ∙ sym here
 
-  -- Demand 3, second half, for each place: 101 to 106 names a blank datum, and filling it leads to an answer later in document 01's order.
-  pub demand-3-later-each : (e : Entry) (old new : List ℕ) (n i : ℕ) → AnswersEach b e first last old new (All n) → i < n → Asks (answer-at i new) → (q : Datum) × (answer-at i new ≡ asking q) × (datum (e .known) q ≡ Blank) × ((v : ℕ) → permitted q v ≡ true → place-of (outcome (spelled b) (with-count (first + i) (on-unless-given e))) < place-of (outcome (spelled b) (with-count (first + i) (on-unless-given (fill q v e)))))
+  -- Demand 3, second half, for each place: 101 to 106 names a datum that is blank in the place's entry after filling. Unless it is the HPK, filling it
+  -- leads to an answer later in document 01's order.
+  pub demand-3-later-each : (e : Entry) (old new : List ℕ) (n i : ℕ) → AnswersEach b e first last old new (All n) → i < n → Asks (answer-at i new) → (q : Datum) × (answer-at i new ≡ asking q) × (datum (after-filling (spelled b) (of-place e (first + i)) .known) q ≡ Blank) × ((q ≡ Hpk → ⊥) → (v : ℕ) → permitted q v ≡ true → place-of (outcome (spelled b) (of-place e (first + i))) < place-of (outcome (spelled b) (of-place (fill q v e) (first + i))))
   unfolding fill
   demand-3-later-each e old new n i p h asks =
       let number = ap (λ (l : List ℕ). getD l 0 0) (place-answers e old new n i p h refl) in
       let m = demand-3-later b (with-count (first + i) (on-unless-given e)) refl (subst Asks number asks) in
-      (m .0, number ∙ m .1, m .2, m .3)
+      (m .0, number ∙ m .1, m .2 .0, m .2 .1)
+
+  -- P5: with no byte of table 70 each place is what the check without it answers.
+  pub without-table-70-each : (e : Entry) (old new : List ℕ) (n i : ℕ) → AnswersEach b e first last old new (All n) → i < n → b T070 ≡ [] → numbers-at i new ≡ numbers-of (check-without-70 (spelled b) (of-place e (first + i)))
+  without-table-70-each e old new n i p h empty =
+      place-answers e old new n i p h refl ∙ ap numbers-of (without-table-70 b (of-place e (first + i)) refl empty)
 
 -- Reordering the rows of a lent table changes no place.
 pub reordering-each : (b c : Lents) (first last : ℕ) (e : Entry) (old new old' new' : List ℕ) (n n' i : ℕ) → AnswersEach b e first last old new (All n) → AnswersEach c e first last old' new' (All n') → i < n → i < n' → ReorderedBytes b c → numbers-at i new ≡ numbers-at i new'

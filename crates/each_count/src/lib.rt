@@ -73,20 +73,21 @@ fn put_answers(
     t643: &[u8],
     t649: &[u8],
     t730: &[u8],
+    t070: &[u8],
     e: Entry,
     first: u32,
     n: usize,
     list: &mut [u32],
 )
-    requires { ⌜ (s ≡ soundness (lents (now t640) (now t641) (now t642) (now t643) (now t649) (now t730))) × (n * answer-length ≤ length (now list)) × (first + n ≤ 4_294_967_296) ⌝ }
-    ensures { λ _. ⌜ now (list .exit) ≡ answers-from (spelled (lents (now (t640 .entry)) (now (t641 .entry)) (now (t642 .entry)) (now (t643 .entry)) (now (t649 .entry)) (now (t730 .entry)))) e first n ++ drop (n * answer-length) (now (list .entry)) ⌝ }
+    requires { ⌜ (s ≡ soundness (lents (now t640) (now t641) (now t642) (now t643) (now t649) (now t730) (now t070))) × (n * answer-length ≤ length (now list)) × (first + n ≤ 4_294_967_296) ⌝ }
+    ensures { λ _. ⌜ now (list .exit) ≡ answers-from (spelled (lents (now (t640 .entry)) (now (t641 .entry)) (now (t642 .entry)) (now (t643 .entry)) (now (t649 .entry)) (now (t730 .entry)) (now (t070 .entry)))) e first n ++ drop (n * answer-length) (now (list .entry)) ⌝ }
 {
     let asked = on_unless_given(e);
     let mut i: usize = 0;
     while i < n {
         let count = first + i as u32;
         let one = asked.with_count(count);
-        let a = dosecheck::check_after(s, t640, t641, t642, t643, t649, t730, one);
+        let a = dosecheck::check_after(s, t640, t641, t642, t643, t649, t730, t070, one);
         put_numbers(list, i * Answer::LENGTH, &a.numbers());
         i += 1;
     }
@@ -101,13 +102,14 @@ pub fn check_each_after(
     t643: &[u8],
     t649: &[u8],
     t730: &[u8],
+    t070: &[u8],
     e: Entry,
     first: u32,
     last: u32,
     list: &mut [u32],
 ) -> Counted
-    requires { ⌜ s ≡ soundness (lents (now t640) (now t641) (now t642) (now t643) (now t649) (now t730)) ⌝ }
-    ensures { λ r. ⌜ AnswersEach (lents (now (t640 .entry)) (now (t641 .entry)) (now (t642 .entry)) (now (t643 .entry)) (now (t649 .entry)) (now (t730 .entry))) e first last (now (list .entry)) (now (list .exit)) r ⌝ }
+    requires { ⌜ s ≡ soundness (lents (now t640) (now t641) (now t642) (now t643) (now t649) (now t730) (now t070)) ⌝ }
+    ensures { λ r. ⌜ AnswersEach (lents (now (t640 .entry)) (now (t641 .entry)) (now (t642 .entry)) (now (t643 .entry)) (now (t649 .entry)) (now (t730 .entry)) (now (t070 .entry))) e first last (now (list .entry)) (now (list .exit)) r ⌝ }
 {
     let counted = count(first, last, list.len() / Answer::LENGTH);
     put_answers(
@@ -118,6 +120,7 @@ pub fn check_each_after(
         t643,
         t649,
         t730,
+        t070,
         e,
         first,
         how_many(counted),
@@ -134,17 +137,31 @@ pub fn check_each(
     t643: &[u8],
     t649: &[u8],
     t730: &[u8],
+    t070: &[u8],
     e: Entry,
     first: u32,
     last: u32,
     list: &mut [u32],
 ) -> Counted
-    ensures { λ r. ⌜ AnswersEach (lents (now (t640 .entry)) (now (t641 .entry)) (now (t642 .entry)) (now (t643 .entry)) (now (t649 .entry)) (now (t730 .entry))) e first last (now (list .entry)) (now (list .exit)) r ⌝ }
+    ensures { λ r. ⌜ AnswersEach (lents (now (t640 .entry)) (now (t641 .entry)) (now (t642 .entry)) (now (t643 .entry)) (now (t649 .entry)) (now (t730 .entry)) (now (t070 .entry))) e first last (now (list .entry)) (now (list .exit)) r ⌝ }
 {
     let counted = count(first, last, list.len() / Answer::LENGTH);
     let Counted::All(_) = counted else {
         return counted;
     };
-    let s = ranges::sound::tables_sound(t640, t641, t642, t643, t649, t730);
-    check_each_after(s, t640, t641, t642, t643, t649, t730, e, first, last, list)
+    let s = ranges::sound::tables_sound(t640, t641, t642, t643, t649, t730, t070);
+    check_each_after(
+        s,
+        t640,
+        t641,
+        t642,
+        t643,
+        t649,
+        t730,
+        t070,
+        e,
+        first,
+        last,
+        list,
+    )
 }

@@ -1,28 +1,29 @@
--- P4: "With the setting off the other eight numbers are as before." Below is the check as it stood before P4: step 9 ends with its signal, and 125 looks at
--- no setting after months. With quiet off or not given the check answers what it did (`as-before`), and nothing is suppressed (`nothing-suppressed`).
+-- P4: "With the setting off the other eight numbers are as before." Below is the check without P4: step 9 ends with its signal, and 125 looks at no setting
+-- after months. With quiet off or not given the check answers what that does (`as-before`), and nothing is suppressed (`nothing-suppressed`).
 use Prim.Native.Nat.{ℕ, suc, _≤_, _<_}
-use mathlib.Core.Path.{_≡_, refl, _∙_, ap, ap₂, fun-ext}
+use mathlib.Core.Path.{_≡_, refl, sym, _∙_, ap, ap₂, subst, fun-ext}
 use mathlib.Core.Bool.{Bool, true, false, cond, not, _&&_, _||_, and-true}
 use native.Mathlib.Nat.{le-refl, le-trans, le-of-lt}
 use borrow.Author.Tests.{eqb-true}
 use lib.Dec.{T, eqb, leb, ltb, lit≤, le→leb, lt→ltb}
 use Rattle.guideline.specs.Types.{Switch, NotGiven, Position, Prescription, Entry, Answer, T640, T641, T642, T643, T649, T730, Ending, Refusal, Asks, Ends, Reached, Ratio, Context, Selected}
 use Rattle.guideline.specs.Values.{within, codes, off, switched, setting-entered}
-use Rattle.guideline.specs.Ask.{Plan, Done, Step, _>>=_, _>>_, at, Outcome, Chosen, Refused, run}
+use Rattle.guideline.specs.Ask.{Plan, Done, Step, _>>=_, _>>_, at, Outcome, Chosen, Refused, run, after, chosen-or, no-data}
 use Rattle.guideline.specs.Table.{Table, some, among}
 use Rattle.guideline.specs.Rows.{Row, keyed, Tables}
 use Rattle.guideline.specs.Entries.{datum, datum-in-range, each, switch-in-range, setting-in-range, dose-in-range, units-in-range, prescription-in-range, in-range}
 use Rattle.guideline.specs.Order.{line, place}
 use Rattle.guideline.specs.Forms.{when, refuse}
 use Rattle.guideline.specs.Quiet.{may-suppress, suppresses}
-use Rattle.guideline.specs.Steps.{sound, ratio, product, person, level, setting, few, by-age, exact, twin, signal, no-frequency, by-frequency, by-weight, by-surface, one-row, of-rows, dose-row, limits-of, comparison, nothing, to-basis, to-category, to-rule, selection, Verdict, over-sound, plan}
-use Rattle.guideline.specs.Check.{outcome, answer, check}
+use Rattle.guideline.specs.Steps.{ratio, product, person, level, setting, few, by-age, exact, twin, signal, no-frequency, by-frequency, by-weight, by-surface, one-row, of-rows, dose-row, limits-of, comparison, nothing, to-basis, to-category, to-rule, selection, Verdict, over-sound, before-step-2}
+use Rattle.guideline.specs.Check.{up-to-step-2, from-step-2, outcome, answer, check}
 use Rattle.guideline.proofs.AllRefusals.{refusals, all, of-every-refusal}
 use Rattle.guideline.proofs.Rise.{Rises, rises-done, rises-stop, rises-ask, rises-when}
-use Rattle.guideline.proofs.Steady.{sound-rises, ratio-rises, product-rises, person-rises, level-rises, setting-rises, few-rises, by-age-rises, stands-rises, by-weight-rises, by-surface-rises, one-row-rises, limits-of-rises}
+use Rattle.guideline.proofs.Steady.{sound-rises, filling-rises, ratio-rises, product-rises, person-rises, level-rises, setting-rises, few-rises, by-age-rises, stands-rises, by-weight-rises, by-surface-rises, one-row-rises, limits-of-rises}
 use Rattle.guideline.proofs.Holds.{Holds, holds-done, holds-stop, holds-ask, holds-bind, holds-then, run-holds, Comes}
+use Rattle.guideline.proofs.AfterFilling.{keeps-step-2}
 
--- the twelve steps with any step 9
+-- steps 2 to 12 with any step 9
 abbrev pub StepNine : Type 0
 StepNine = Prescription → Context → Table (Row T643) → Step (Table (Row T643))
 
@@ -35,12 +36,11 @@ rows-with nine e c t = do
   s ← by-surface w
   one-row s
 
-unfoldable pub plan-with : StepNine → Tables → Prescription → Plan Reached Verdict
-plan-with nine t e =
-    at nothing (sound t) >> do
-      q ← at nothing (ratio (t .rows T730) e)
-      s ← selected q
-      Done (record { compared = comparison e s; reached = to-rule (s .context) (s .row) })
+unfoldable pub over-sound-with : StepNine → Tables → Prescription → Plan Reached Verdict
+over-sound-with nine t e = do
+  q ← at nothing (ratio (t .rows T730) e)
+  s ← selected q
+  Done (record { compared = comparison e s; reached = to-rule (s .context) (s .row) })
   where
     selected : Ratio → Plan Reached Selected
     selected q = do
@@ -53,9 +53,9 @@ plan-with nine t e =
       m ← at (to-rule c x) (limits-of (t .rows T649) (x .gpddnr))
       Done (record { context = c; row = x; limits = m })
 
-plan-is : (t : Tables) (e : Prescription) → plan t e ≡ plan-with (by-frequency (t .rows T649)) t e
-unfolding plan over-sound selection dose-row of-rows plan-with rows-with
-plan-is t e = refl
+over-sound-is : (t : Tables) (e : Prescription) → over-sound t e ≡ over-sound-with (by-frequency (t .rows T649)) t e
+unfolding over-sound selection dose-row of-rows over-sound-with rows-with
+over-sound-is t e = refl
 
 -- step 9 before P4: "None: 115 .., else 116 .., else 117"
 unfoldable pub frequency-before : StepNine
@@ -71,9 +71,12 @@ in-range-before e =
     && (dose-in-range (e .rest) && (units-in-range (e .rest) && switch-in-range (e .rest .months)))))
     && each (λ x. datum-in-range x (datum (e .known) x))
 
+unfoldable pub from-step-2-before : Tables → Entry → Outcome Reached Verdict
+from-step-2-before t f = run (datum (f .known)) (over-sound-with frequency-before t (f .rest))
+
 unfoldable pub outcome-before : Tables → Entry → Outcome Reached Verdict
 outcome-before t e =
-    cond (in-range-before e) (run (datum (e .known)) (plan-with frequency-before t (e .rest))) (Refused (Ends Ending.EntryOutOfRange) nothing)
+    cond (in-range-before e) (after (up-to-step-2 t e) (from-step-2-before t)) (Refused (Ends Ending.EntryOutOfRange) nothing)
 
 unfoldable pub check-before : Tables → Entry → Answer
 check-before t e = answer (outcome-before t e)
@@ -88,24 +91,37 @@ not-given-is-off = (refl, refl)
 pub off-is-off : Off (Position off)
 off-is-off = (refl, refl)
 
-module _ (e : Entry) (o : Off (e .rest .quiet)) where
-  same-frequency : (limits : Table (Row T649)) (c : Context) (t : Table (Row T643)) → by-frequency limits (e .rest) c t ≡ frequency-before (e .rest) c t
+module _ (e : Prescription) (o : Off (e .quiet)) where
+  same-frequency : (limits : Table (Row T649)) (c : Context) (t : Table (Row T643)) → by-frequency limits e c t ≡ frequency-before e c t
   unfolding by-frequency no-frequency suppresses may-suppress frequency-before when _>>=_
   same-frequency limits c t = rw (o .0)
 
+  -- step 9 is the only step that differs
+  same-steps : (t : Tables) → over-sound t e ≡ over-sound-with frequency-before t e
+  unfolding over-sound-with rows-with
+  same-steps t = over-sound-is t e ∙ ap (λ (nine : Context → Table (Row T643) → Step (Table (Row T643))). over-sound-with (λ p. nine) t e) (fun-ext (λ c. fun-ext (λ a. same-frequency (t .rows T649) c a)))
+
+-- table 70 fills no setting
+quiet-stays : (t : Tables) (e : Entry) → chosen-or e (up-to-step-2 t e) .rest .quiet ≡ e .rest .quiet
+quiet-stays t e = ap (λ (p : Prescription). p .quiet) (keeps-step-2 t e .rest)
+
+module _ (e : Entry) (o : Off (e .rest .quiet)) where
   same-range : in-range e ≡ in-range-before e
   unfolding in-range in-range-before prescription-in-range
   same-range = rw (o .1, and-true (switch-in-range (e .rest .months)))
 
-  -- step 9 is the only step that differs
-  same-plan : (t : Tables) → plan t (e .rest) ≡ plan-with frequency-before t (e .rest)
-  unfolding plan-with rows-with
-  same-plan t = plan-is t (e .rest) ∙ ap (λ (nine : Context → Table (Row T643) → Step (Table (Row T643))). plan-with (λ p. nine) t (e .rest)) (fun-ext (λ c. fun-ext (λ a. same-frequency (t .rows T649) c a)))
+  same-from-step-2 : (t : Tables) → after (up-to-step-2 t e) (from-step-2 t) ≡ after (up-to-step-2 t e) (from-step-2-before t)
+  unfolding from-step-2 from-step-2-before
+  same-from-step-2 t = go (up-to-step-2 t e) (subst Off (sym (quiet-stays t e)) o)
+    where
+      go : (u : Outcome Reached Entry) → Off (chosen-or e u .rest .quiet) → after u (from-step-2 t) ≡ after u (from-step-2-before t)
+      go (Chosen f) h = ap (run (datum (f .known))) (same-steps (f .rest) h t)
+      go (Refused r g) h = refl
 
   same-outcome : (t : Tables) → outcome t e ≡ outcome-before t e
   unfolding outcome outcome-before
   same-outcome t =
-      ap₂ (λ (b : Bool) (p : Plan Reached Verdict). cond b (run (datum (e .known)) p) (Refused (Ends Ending.EntryOutOfRange) nothing)) same-range (same-plan t)
+      ap₂ (λ (b : Bool) (u : Outcome Reached Verdict). cond b u (Refused (Ends Ending.EntryOutOfRange) nothing)) same-range (same-from-step-2 t)
 
   pub as-before : (t : Tables) → check t e ≡ check-before t e
   unfolding check check-before
@@ -157,10 +173,9 @@ rows-calm e c t =
     holds-bind (calm (by-weight-rises f) tt) (λ w _.
     holds-bind (calm (by-surface-rises w) tt) (λ s _. calm (one-row-rises s) tt)))))
 
-plan-calm : (t : Tables) (e : Prescription) → Holds Calm Whatever (plan-with frequency-before t e)
-unfolding plan-with
-plan-calm t e =
-    holds-then (calm-at nothing (calm (sound-rises t) tt)) (λ _ _.
+steps-calm : (t : Tables) (e : Prescription) → Holds Calm Whatever (over-sound-with frequency-before t e)
+unfolding over-sound-with
+steps-calm t e =
     holds-bind (calm-at nothing (calm (ratio-rises _ e) tt)) (λ q _.
     holds-bind {Q = Whatever {A = Selected}}
     (holds-bind (calm-at nothing (calm (product-rises _ _) tt)) (λ p _.
@@ -169,16 +184,23 @@ plan-calm t e =
     holds-bind (calm-at (to-basis l) (calm (setting-rises _ _ _) tt)) (λ s _.
     holds-bind (calm-at _ (rows-calm e _ _)) (λ x _.
     holds-bind (calm-at _ (calm (limits-of-rises _ _) tt)) (λ m _. holds-done tt)))))))
-    (λ s _. holds-done tt)))
+    (λ s _. holds-done tt))
+
+before-step-2-calm : (t : Tables) (e : Entry) → Holds Calm Whatever (before-step-2 t e)
+unfolding before-step-2
+before-step-2-calm t e =
+    holds-then (calm-at nothing (calm (sound-rises t) tt)) (λ _ _. calm-at nothing (calm (filling-rises _ e) tt))
 
 pub nothing-suppressed : (t : Tables) (e : Entry) → Off (e .rest .quiet) → check t e .suppressed ≡ 0
-unfolding check-before outcome-before
-nothing-suppressed t e o = ap (λ (a : Answer). a .suppressed) (as-before e o t) ∙ go (in-range-before e)
+unfolding check-before outcome-before up-to-step-2 from-step-2-before
+nothing-suppressed t e o =
+    ap (λ (a : Answer). a .suppressed) (as-before e o t) ∙ go (in-range-before e) (up-to-step-2 t e) (run-holds Calm Whatever no-data (before-step-2-calm t e))
   where
     of-run : (u : Outcome Reached Verdict) → Comes Calm Whatever u → answer u .suppressed ≡ 0
     of-run (Chosen v) k = refl
     of-run (Refused r g) k = k
 
-    go : (b : Bool) → answer (cond b (run (datum (e .known)) (plan-with frequency-before t (e .rest))) (Refused (Ends Ending.EntryOutOfRange) nothing)) .suppressed ≡ 0
-    go true = of-run (run (datum (e .known)) (plan-with frequency-before t (e .rest))) (run-holds Calm Whatever (datum (e .known)) (plan-calm t (e .rest)))
-    go false = refl
+    go : (b : Bool) (u : Outcome Reached Entry) → Comes Calm Whatever u → answer (cond b (after u (from-step-2-before t)) (Refused (Ends Ending.EntryOutOfRange) nothing)) .suppressed ≡ 0
+    go true (Chosen f) h = of-run (from-step-2-before t f) (run-holds Calm Whatever (datum (f .known)) (steps-calm t (f .rest)))
+    go true (Refused r g) h = h
+    go false u h = refl

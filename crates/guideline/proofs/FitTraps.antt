@@ -2,7 +2,7 @@
 -- each told by its count per day. ExamplesOfTraps.antt proves them.
 use Prim.Native.Nat.{ℕ}
 use mathlib.Core.List.{List, [], _∷_, _++_}
-use Rattle.guideline.specs.Types.{T640, T641, T642, T643, T649, T730}
+use Rattle.guideline.specs.Types.{T640, T641, T642, T643, T649, T730, T070}
 use Rattle.guideline.specs.ProofTable.{Printed, put, K1, Case, gives}
 
 -- a row of category 7 with bounds for one of the three
@@ -39,6 +39,7 @@ fit-tables T649 =
     no-limits 1 ∷ no-limits 2 ∷ no-limits 3 ∷ no-limits 4 ∷ no-limits 5 ∷ no-limits 6 ∷ no-limits 7
     ∷ no-limits 8 ∷ no-limits 9 ∷ no-limits 10 ∷ no-limits 11 ∷ no-limits 12 ∷ no-limits 13 ∷ []
 fit-tables T730 = []
+fit-tables T070 = []
 
 -- K1 with another count, and age (number 3), weight (5) or surface (6)
 abbrev aged : ℕ → ℕ → ℕ → ℕ

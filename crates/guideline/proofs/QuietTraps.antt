@@ -2,7 +2,7 @@
 -- follows from 001, 3.4.2, by hand. A route of its own chooses each category; the entry is per day. ExamplesOfTraps.antt proves them.
 use Prim.Native.Nat.{ℕ, _/_, _%_}
 use mathlib.Core.List.{List, [], _∷_}
-use Rattle.guideline.specs.Types.{T640, T641, T642, T643, T649, T730}
+use Rattle.guideline.specs.Types.{T640, T641, T642, T643, T649, T730, T070}
 use Rattle.guideline.specs.Values.{off, on}
 use Rattle.guideline.specs.Entries.{blank}
 use Rattle.guideline.specs.ProofTable.{Printed, put, K1, Case, gives}
@@ -71,6 +71,7 @@ quiet-tables T649 =
     ∷ (7 ∷ 0 ∷ 999_999_999 ∷ 0 ∷ [])
     ∷ []
 -- drops in a millilitre (004), and amounts whose products pass 64 bits
+quiet-tables T070 = []
 quiet-tables T730 =
     amount 233 1_000 ∷ amount 303 20_000
     ∷ amount 229 9_991_000_000 ∷ amount 245 9_999_000_000 ∷ []

@@ -4,7 +4,7 @@ use Prim.Native.Nat.{ℕ}
 use mathlib.Core.Bool.{Bool, true, false, not, cond, _&&_}
 use mathlib.Core.List.{List, [], _∷_}
 use lib.ListN.{getD}
-use Rattle.guideline.specs.Types.{TableName, T640, T641, T642, T643, T649, T730}
+use Rattle.guideline.specs.Types.{TableName, T640, T641, T642, T643, T649, T730, T070}
 use Rattle.guideline.specs.Rows.{read-row, sound-row}
 use Rattle.guideline.specs.Entries.{blank, read-entry, in-range}
 use Rattle.guideline.specs.ProofTable.{put, K1}
@@ -30,7 +30,7 @@ ends-hold p (x ∷ l) = all-pass true (p (x .field)) (x .inside) && (all-pass fa
 abbrev most-code : ℕ
 most-code = 99_999_999
 
--- a code; a code from 1; a unit or time unit; a limit
+-- a code; a code from 1; a unit or time unit; a count of table 70; a limit
 abbrev code : ℕ → End
 code k = end k (0 ∷ most-code ∷ []) (100_000_000 ∷ [])
 
@@ -39,6 +39,9 @@ code-from-1 k = end k (1 ∷ most-code ∷ []) (0 ∷ 100_000_000 ∷ [])
 
 abbrev unit : ℕ → End
 unit k = end k (0 ∷ 999_999 ∷ []) (1_000_000 ∷ [])
+
+abbrev count-of-070 : ℕ → End
+count-of-070 k = end k (0 ∷ 999_999 ∷ []) (1_000_000 ∷ [])
 
 abbrev limit : ℕ → End
 limit k = end k (0 ∷ 999_999_999 ∷ []) (1_000_000_000 ∷ [])
@@ -84,6 +87,7 @@ sound-numbers T642 = 1 ∷ 3 ∷ 1 ∷ 0 ∷ 0 ∷ 1 ∷ []
 sound-numbers T643 = 1 ∷ 500_000 ∷ 500_000 ∷ 1 ∷ 19 ∷ 500_000 ∷ 500_000 ∷ 500_000 ∷ 500_000 ∷ 1 ∷ []
 sound-numbers T649 = 1 ∷ 0 ∷ 0 ∷ 0 ∷ []
 sound-numbers T730 = 1 ∷ 1 ∷ 0 ∷ 0 ∷ 1 ∷ []
+sound-numbers T070 = 1 ∷ 1 ∷ 0 ∷ 1 ∷ 0 ∷ 0 ∷ []
 
 -- "Bounds at most 999,999, low not above high"
 abbrev low : ℕ → End
@@ -112,6 +116,7 @@ table-ends T643 =
 table-ends T649 = code-from-1 0 ∷ limit 1 ∷ limit 2 ∷ limit 3 ∷ []
 -- an amount of 999,999,999,999 is 232 times 4,294,967,296 and 3,567,587,327
 table-ends T730 = unit 0 ∷ code 1 ∷ end 3 (0 ∷ 232 ∷ []) (233 ∷ []) ∷ unit 4 ∷ []
+table-ends T070 = code-from-1 0 ∷ code-from-1 1 ∷ count-of-070 2 ∷ code-from-1 3 ∷ count-of-070 4 ∷ count-of-070 5 ∷ []
 
 unfoldable pub amount-ends : List End
 amount-ends = end 2 (0 ∷ 3_567_587_327 ∷ []) (3_567_587_328 ∷ []) ∷ []
@@ -135,4 +140,5 @@ range-ends-hold =
     && (table-ends-hold T642
     && (table-ends-hold T643
     && (table-ends-hold T649
-    && (table-ends-hold T730 && row-ends-hold T730 (put 3 232 (λ k. getD (sound-numbers T730) k 0)) amount-ends)))))))
+    && (table-ends-hold T730
+    && (row-ends-hold T730 (put 3 232 (λ k. getD (sound-numbers T730) k 0)) amount-ends && table-ends-hold T070))))))))

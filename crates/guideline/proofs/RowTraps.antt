@@ -3,7 +3,7 @@
 use Prim.Native.Nat.{ℕ}
 use mathlib.Core.List.{List, [], _∷_}
 use lib.ListN.{replicate}
-use Rattle.guideline.specs.Types.{T640, T641, T642, T643, T649, T730}
+use Rattle.guideline.specs.Types.{T640, T641, T642, T643, T649, T730, T070}
 use Rattle.guideline.specs.Entries.{blank}
 use Rattle.guideline.specs.ProofTable.{Printed, put, K1, Case, gives}
 
@@ -19,6 +19,7 @@ with-rows l T642 = (5 ∷ 3 ∷ 17752 ∷ 0 ∷ 0 ∷ 7 ∷ []) ∷ []
 with-rows l T643 = l
 with-rows l T649 = (9 ∷ 0 ∷ 0 ∷ 0 ∷ []) ∷ []
 with-rows l T730 = []
+with-rows l T070 = []
 
 abbrev pub surface-rows : List (List ℕ)
 surface-rows = by-surface ∷ []

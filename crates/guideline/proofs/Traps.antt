@@ -3,7 +3,7 @@
 -- has amounts about the limits of 127 and 128, which take more than 32 bits. ExamplesOfTraps.antt proves them.
 use Prim.Native.Nat.{ℕ, _/_, _%_}
 use mathlib.Core.List.{List, [], _∷_}
-use Rattle.guideline.specs.Types.{T640, T641, T642, T643, T649, T730}
+use Rattle.guideline.specs.Types.{T640, T641, T642, T643, T649, T730, T070}
 use Rattle.guideline.specs.Entries.{blank}
 use Rattle.guideline.specs.ProofTable.{Printed, proof-table, put, K1, Case, gives}
 
@@ -36,6 +36,7 @@ tables T641 = proof-table T641
 tables T642 = proof-table T642
 tables T643 = (33784 ∷ 216000 ∷ 999999 ∷ 1 ∷ 46 ∷ 0 ∷ 999999 ∷ 0 ∷ 999999 ∷ 5 ∷ []) ∷ proof-table T643
 tables T649 = proof-table T649
+tables T070 = []
 tables T730 =
     unit-of of-HPK 216267 1_000 ML
     ∷ unit-of of-HPK 216267 2_000 MG

@@ -3,7 +3,7 @@
 -- tried both ways. ExamplesOfTraps.antt proves them.
 use Prim.Native.Nat.{ℕ}
 use mathlib.Core.List.{List, [], _∷_, _++_}
-use Rattle.guideline.specs.Types.{T640, T641, T642, T643, T649, T730}
+use Rattle.guideline.specs.Types.{T640, T641, T642, T643, T649, T730, T070}
 use Rattle.guideline.specs.Values.{off, on}
 use Rattle.guideline.specs.Entries.{blank}
 use Rattle.guideline.specs.ProofTable.{Printed, put, K1, Case, gives}
@@ -29,6 +29,7 @@ twin-tables T649 =
     ∷ (41 ∷ 0 ∷ 0 ∷ 0 ∷ [])
     ∷ []
 twin-tables T730 = []
+twin-tables T070 = []
 
 -- K1 with another frequency and months setting
 abbrev entered : ℕ → ℕ → ℕ → ℕ → ℕ

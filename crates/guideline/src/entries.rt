@@ -120,3 +120,8 @@ pub struct Prescription {
     pub months: Switch,
     pub quiet: Switch,
 }
+
+impl Prescription {
+    // "GPK (0 none)"
+    pub const NO_GPK: u32 = 0;
+}

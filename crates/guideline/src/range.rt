@@ -1,6 +1,6 @@
 // The ranges of document 01's fields.
 ghost use mathlib.Core.Path.{_≡_};
-ghost use Rattle.guideline.specs.Values.{within, codes, codes-from-1, units, counts, doses, limits, ages, weights, surfaces, sexes, sexes-of-640, risks, levels, care-groups, icpctos, positions, amount-in-range, amount-zero, amount-large};
+ghost use Rattle.guideline.specs.Values.{within, codes, codes-from-1, units, counts, counts-of-070, doses, limits, ages, weights, surfaces, sexes, sexes-of-640, risks, levels, care-groups, icpctos, positions, amount-in-range, amount-zero, amount-large};
 use crate::both;
 use crate::entries::Switch;
 use crate::rows::Row640;
@@ -19,6 +19,8 @@ impl Range {
     pub const UNIT: u32 = 999_999;
 
     pub const COUNT: u32 = 999;
+
+    pub const COUNT_OF_070: u32 = 999_999;
 
     pub const DOSE: u32 = 999_999_999;
 
@@ -68,6 +70,16 @@ impl Range {
         Range {
             low: 1,
             high: Range::COUNT,
+        }
+    }
+
+    // HPANPR, PRANGP and HPANGP, six digits wide.
+    pub fn counts_of_070() -> Range
+        ensures { λ r. ⌜ r ≡ counts-of-070 ⌝ }
+    {
+        Range {
+            low: 0,
+            high: Range::COUNT_OF_070,
         }
     }
 

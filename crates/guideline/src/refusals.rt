@@ -22,12 +22,14 @@ pub enum Signal {
     Both,
 }
 
-// How a check ends before its comparison (step 12), other than by a missing datum: one for each test of "Order of steps", in its order. `Suppressed` is P4's:
-// the answer is 100 then.
+// How a check ends before its comparison (step 12), other than by a missing datum: one for each test of "Order of steps", in its order. `HpkRowsSeveral` and
+// `HpkRowDiffers` are P5's. `Suppressed` is P4's; its answer is 100.
 pub enum Ending {
     EntryOutOfRange,
     NotWhole(TableName),
     OutOfRange(TableName),
+    HpkRowsSeveral,
+    HpkRowDiffers,
     BaseUnitAbsent,
     BaseUnitSeveral,
     EnteredUnitAbsent,

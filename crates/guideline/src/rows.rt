@@ -1,6 +1,5 @@
-// The tables by their numbers, and their rows: fields in document 01's order and under its names.
+// The tables by their numbers, and their rows.
 
-// The tables by their numbers.
 pub enum TableName {
     T640,
     T641,
@@ -8,9 +7,10 @@ pub enum TableName {
     T643,
     T649,
     T730,
+    T070,
 }
 
-// The rows of the six tables, fields in document 01's order and under its names.
+// The rows of the tables, fields in document 01's order and under its names; those of table 70 (P5) in document 004's.
 pub struct Row640 {
     pub gpkode: u32,
     pub gpdgst: u32,
@@ -59,6 +59,16 @@ pub struct Row730 {
     pub code: u32,
     pub cdhoev: u64,
     pub cdeenh: u32,
+}
+
+// HPANPR: how many PRK in the HPK; PRANGP: GPK in the PRK; HPANGP: GPK in the HPK.
+pub struct Row070 {
+    pub hpkode: u32,
+    pub prkode: u32,
+    pub hpanpr: u32,
+    pub gpkode: u32,
+    pub prangp: u32,
+    pub hpangp: u32,
 }
 
 impl Row640 {

@@ -3,7 +3,7 @@ use Prim.Native.Nat.{ℕ}
 use mathlib.Core.Path.{_≡_}
 use mathlib.Core.List.{List}
 use Rattle.guideline.specs.declared.rows.TableName.{TableName}
-use Rattle.guideline.specs.declared.rows.TableName.the-variants.{T640, T641, T642, T643, T649, T730}
+use Rattle.guideline.specs.declared.rows.TableName.the-variants.{T640, T641, T642, T643, T649, T730, T070}
 use Rattle.guideline.specs.Bytes.{Lents, by-rows}
 use Rattle.cells.specs.Lents.{key-at}
 use Rattle.keys.specs.declared.seen.Seen.{Seen}
@@ -26,4 +26,5 @@ all-seen b =
       t643 = seen-of T643 (b T643);
       t649 = seen-of T649 (b T649);
       t730 = seen-of T730 (b T730);
+      t070 = seen-of T070 (b T070);
     }

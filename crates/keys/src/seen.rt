@@ -3,7 +3,7 @@ pub struct Seen {
     pub rising: bool,
 }
 
-// Of the six tables.
+// Of the seven tables.
 pub struct AllSeen {
     pub t640: Seen,
     pub t641: Seen,
@@ -11,4 +11,5 @@ pub struct AllSeen {
     pub t643: Seen,
     pub t649: Seen,
     pub t730: Seen,
+    pub t070: Seen,
 }

@@ -14,7 +14,7 @@ use Rattle.filter.specs.declared.Measure.{Measure}
 use Rattle.filter.specs.declared.Measure.the-variants.{Weight, Surface}
 use Rattle.filter.specs.Filters.{measure-bounds}
 use Rattle.sieve.specs.declared.settled.Settled.{Settled}
-use Rattle.sieve.specs.Settled.{kept, other-filter}
+use Rattle.sieve.specs.Settled.{kept, other-value}
 use Rattle.quiet.specs.declared.fitting.Fitted.{Fitted}
 use Rattle.quiet.specs.declared.fitting.Fitted.the-variants.{Rows, Asks as Lacks}
 
@@ -25,7 +25,7 @@ question-of Surface = SurfacePerDay
 -- whatever the other data are: the plan chooses the rows that fit, with the other measure as it was; or it asks
 abbrev pub Leaves : List ℕ → View → Settled → Measure → Value → Fitted → Type 0
 Leaves l v s m x (Rows w) =
-    (other-filter m w ≡ other-filter m s)
+    (other-value m w ≡ other-value m s)
     × ((d : Datum → Value) → d (asks-for (question-of m)) ≡ x → run d (fitting (question-of m) (measure-bounds m) (kept l v s)) ≡ Chosen (kept l v w))
 Leaves l v s m x (Lacks q) =
     (d : Datum → Value) → d (asks-for (question-of m)) ≡ x → run d (fitting (question-of m) (measure-bounds m) (kept l v s)) ≡ Refused (Asks q) tt

@@ -1,6 +1,7 @@
 // P4, quiet on a missing frequency: document 001, 3.4.2. Is the signal of step 9 suppressed? A link is one filter and what follows from it.
 ghost use mathlib.Core.Path.{_≡_};
 ghost use lib.ListN.{length};
+ghost use Rattle.guideline.specs.declared.entries.Value.the-variants.{Blank};
 ghost use Rattle.guideline.specs.declared.rows.TableName.the-variants.{T643, T649};
 ghost use Rattle.guideline.specs.Ask.{run};
 ghost use Rattle.guideline.specs.Entries.{datum};
@@ -82,7 +83,7 @@ fn from_surface(
     d: Data,
     q: Ratio,
 ) -> Quieted
-    requires { ⌜ Fits (width T643) v (length (now t643)) × Sees T649 (now t649) w × Amounts q × Tested p (rows T649 (now t649)) × (s .surface ≡ Every) ⌝ }
+    requires { ⌜ Fits (width T643) v (length (now t643)) × Sees T649 (now t649) w × Amounts q × Tested p (rows T649 (now t649)) × (s .surface ≡ Blank) ⌝ }
     ensures { λ r. ⌜ run (datum d) (from-surface (rows T649 (now (t649 .entry))) p q (kept (now (t643 .entry)) v s)) ≡ outcome r ⌝ }
 {
     let surface = d.surface;
@@ -104,7 +105,7 @@ fn from_weight(
     d: Data,
     q: Ratio,
 ) -> Quieted
-    requires { ⌜ Fits (width T643) v (length (now t643)) × Sees T649 (now t649) w × Amounts q × Tested p (rows T649 (now t649)) × (s .weight ≡ Every) × (s .surface ≡ Every) ⌝ }
+    requires { ⌜ Fits (width T643) v (length (now t643)) × Sees T649 (now t649) w × Amounts q × Tested p (rows T649 (now t649)) × (s .weight ≡ Blank) × (s .surface ≡ Blank) ⌝ }
     ensures { λ r. ⌜ run (datum d) (from-weight (rows T649 (now (t649 .entry))) p q (kept (now (t643 .entry)) v s)) ≡ outcome r ⌝ }
 {
     let weight = d.weight;
@@ -126,7 +127,7 @@ pub fn suppresses(
     d: Data,
     c: Context,
 ) -> Quieted
-    requires { ⌜ Fits (width T643) v (length (now t643)) × Sees T649 (now t649) w × Amounts (c .ratio) × Tested p (rows T649 (now t649)) × (s .frequency ≡ Every) × (s .weight ≡ Every) × (s .surface ≡ Every) ⌝ }
+    requires { ⌜ Fits (width T643) v (length (now t643)) × Sees T649 (now t649) w × Amounts (c .ratio) × Tested p (rows T649 (now t649)) × (s .frequency ≡ Every) × (s .weight ≡ Blank) × (s .surface ≡ Blank) ⌝ }
     ensures { λ r. ⌜ run (datum d) (suppresses (rows T649 (now (t649 .entry))) p c (kept (now (t643 .entry)) v s)) ≡ outcome r ⌝ }
 {
     if !may_suppress(p, c) {

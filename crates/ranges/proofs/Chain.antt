@@ -5,7 +5,7 @@ use mathlib.Core.Bool.{Bool, true, false, cond}
 use mathlib.Core.List.{List}
 use native.Mathlib.Omega.{arith}
 use Rattle.guideline.specs.declared.rows.TableName.{TableName}
-use Rattle.guideline.specs.declared.rows.TableName.the-variants.{T640, T641, T642, T643, T649, T730}
+use Rattle.guideline.specs.declared.rows.TableName.the-variants.{T640, T641, T642, T643, T649, T730, T070}
 use Rattle.guideline.specs.declared.view.View.{View}
 use Rattle.guideline.specs.declared.refusals.Ending.{Ending}
 use Rattle.guideline.specs.declared.refusals.Refusal.{Refusal}
@@ -69,33 +69,35 @@ carried-same : (s : Tests) (v w : AllSeen) → (s ≡ Passed → v ≡ w) → ca
 carried-same Passed v w h = ap Sound (h refl)
 carried-same (Failed r) v w h = refl
 
--- the six tables, each after the one before it
-abbrev seen-six : Tried → Tried → Tried → Tried → Tried → Tried → AllSeen
-seen-six p q r s t u =
-    record { t640 = p .seen; t641 = q .seen; t642 = r .seen; t643 = s .seen; t649 = t .seen; t730 = u .seen }
+-- the seven tables, each after the one before it
+abbrev seen-all : Tried → Tried → Tried → Tried → Tried → Tried → Tried → AllSeen
+seen-all p q r s t u v =
+    record { t640 = p .seen; t641 = q .seen; t642 = r .seen; t643 = s .seen; t649 = t .seen; t730 = u .seen; t070 = v .seen }
 
-module _ (b : Lents) (before : Tests) {p q r s t u : Tried}
+module _ (b : Lents) (before : Tests) {p q r s t u v : Tried}
     (ep : p ≡ tried before T640 (b T640))
     (eq : q ≡ tried (p .tests) T641 (b T641))
     (er : r ≡ tried (q .tests) T642 (b T642))
     (es : s ≡ tried (r .tests) T643 (b T643))
     (et : t ≡ tried (s .tests) T649 (b T649))
-    (eu : u ≡ tried (t .tests) T730 (b T730)) where
-  last-tests : u .tests ≡ in-ranges-of (spelled b) before
+    (eu : u ≡ tried (t .tests) T730 (b T730))
+    (ev : v ≡ tried (u .tests) T070 (b T070)) where
+  last-tests : v .tests ≡ in-ranges-of (spelled b) before
   unfolding tried in-range-after in-ranges-of spelled shown
-  last-tests = rw (eu, et, es, er, eq, ep)
+  last-tests = rw (ev, eu, et, es, er, eq, ep)
 
-  six-seen : u .tests ≡ Passed → seen-six p q r s t u ≡ all-seen b
-  six-seen h =
-      let k6 = tried-passed _ _ _ u eu h in
+  all-are-seen : v .tests ≡ Passed → seen-all p q r s t u v ≡ all-seen b
+  all-are-seen h =
+      let k7 = tried-passed _ _ _ v ev h in
+      let k6 = tried-passed _ _ _ u eu (k7 .0) in
       let k5 = tried-passed _ _ _ t et (k6 .0) in
       let k4 = tried-passed _ _ _ s es (k5 .0) in
       let k3 = tried-passed _ _ _ r er (k4 .0) in
       let k2 = tried-passed _ _ _ q eq (k3 .0) in
       let k1 = tried-passed _ _ _ p ep (k2 .0) in
-      rw (k1 .1, k2 .1, k3 .1, k4 .1, k5 .1, k6 .1)
+      rw (k1 .1, k2 .1, k3 .1, k4 .1, k5 .1, k6 .1, k7 .1)
 
-  pub chained : carried (u .tests) (seen-six p q r s t u) ≡ carried (in-ranges-of (spelled b) before) (all-seen b)
+  pub chained : carried (v .tests) (seen-all p q r s t u v) ≡ carried (in-ranges-of (spelled b) before) (all-seen b)
   chained =
-      carried-same (u .tests) (seen-six p q r s t u) (all-seen b) six-seen
+      carried-same (v .tests) (seen-all p q r s t u v) (all-seen b) all-are-seen
       ∙ ap (λ (x : Tests). carried x (all-seen b)) last-tests

@@ -10,13 +10,13 @@ use Rattle.guideline.specs.declared.rows.TableName.{TableName}
 use Rattle.guideline.specs.declared.refusals.Ending.{Ending}
 use Rattle.guideline.specs.declared.refusals.Refusal.{Refusal}
 use Rattle.guideline.specs.declared.refusals.Refusal.the-variants.{Ends}
-use Rattle.guideline.specs.Ask.{Outcome, run, _>>=_, _>>_}
+use Rattle.guideline.specs.Ask.{Outcome, run, after, _>>=_, _>>_}
 use Rattle.guideline.specs.Rows.{table-order, sound-row, Tables}
 use Rattle.guideline.specs.Bytes.{Lents, spelled}
 use Rattle.guideline.specs.Forms.{when, refuse, demand}
 use Rattle.guideline.specs.Table.{all-rows}
 use Rattle.guideline.specs.Steps.{each-table, whole, in-ranges, sound}
-use Rattle.guideline.proofs.Run.{after, run-then}
+use Rattle.guideline.proofs.Run.{run-then}
 use Rattle.guideline.proofs.AllRefusals.{All, of-every-table}
 use Rattle.keys.specs.declared.seen.AllSeen.{AllSeen}
 use Rattle.keys.specs.Seen.{all-seen}

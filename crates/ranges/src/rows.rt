@@ -10,6 +10,7 @@ ghost use Rattle.cells.specs.Lents.{shown, row-at, key-at};
 ghost use Rattle.keys.specs.Keys.{key-of};
 ghost use Rattle.keys.specs.Rising.{rises};
 ghost use Rattle.ranges.specs.Soundly.{InRangeUpTo, tested};
+use crate::t070;
 use crate::t640;
 use crate::t641;
 use crate::t642;
@@ -36,6 +37,7 @@ fn row_in_range(t: &[u8], v: View, n: TableName, i: usize) -> bool
         TableName::T643 => t643::in_range(cells::t643::row(t, v, i)),
         TableName::T649 => t649::in_range(cells::t649::row(t, v, i)),
         TableName::T730 => t730::in_range(cells::t730::row(t, v, i)),
+        TableName::T070 => t070::in_range(cells::t070::row(t, v, i)),
     }
 }
 

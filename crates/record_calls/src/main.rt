@@ -1,8 +1,8 @@
 // The calls of the readers and writers of records in bulk: calls from standard input, the line of each answer to standard output.
 ghost use Prim.Native.Nat.{_+_, _≤_, _<_};
 ghost use lib.ListN.{length};
+ghost use Rattle.call_lines.specs.Lines.{longest-line};
 ghost use Rattle.call_stream.specs.Calls.{longest-call};
-ghost use Rattle.call_stream.specs.Takes.{longest-line};
 use call_stream::Taken;
 use libc::STDIN_FILENO;
 use libc::STDOUT_FILENO;

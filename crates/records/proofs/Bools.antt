@@ -9,6 +9,10 @@ pub and-true : (b : Bool) → b ≡ (b && true)
 and-true true = refl
 and-true false = refl
 
+pub and-off : (b : Bool) → (b && false) ≡ false
+and-off true = refl
+and-off false = refl
+
 pub and-both : (a b : Bool) → a ≡ true → b ≡ true → (a && b) ≡ true
 and-both a b e f = rw (e, f)
 

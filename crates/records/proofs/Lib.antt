@@ -7,10 +7,13 @@ pub mod Spelling
 pub mod PartLaws
 pub mod LayoutLaws
 pub mod Placed
+pub mod Fields
+pub mod Fitting
+pub mod Steps
 pub mod ReadsBack
 pub mod WritesBack
 pub mod SameSets
 pub mod RefusalsLeave
 pub mod Bounds
+pub mod EveryFile
 pub mod OneResult
-pub mod Examples

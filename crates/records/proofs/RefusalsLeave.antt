@@ -1,25 +1,25 @@
--- A refused write leaves the buffer as it was; a write that is done touches nothing outside its 64 characters.
+-- Whatever the file: a refused write leaves the buffer as it was; a write that is done touches nothing outside its characters.
 use Prim.Native.Nat.{ℕ, _+_}
 use mathlib.Core.List.{List}
 use mathlib.Core.Path.{_≡_}
 use lib.ListN.{length, take, drop}
-use Rattle.records.specs.File730.{layout-730, values-730, writing, leaves}
-use Rattle.records.specs.declared.Record730.{Record730}
+use Rattle.records.specs.Layout.{total}
+use Rattle.records.specs.File.{File, writing, leaves}
 use Rattle.records.proofs.Placed as placed
 
-module _ (r : Record730) (at : ℕ) (old : List ℕ) where
-  pub too-wide-leaves : writing r at (length old) ≡ 205 → leaves r at old ≡ old
+module _ {Record : Type 0} (f : File Record) (r : Record) (at : ℕ) (old : List ℕ) where
+  pub too-wide-leaves : writing f r at (length old) ≡ 205 → leaves f r at old ≡ old
   unfolding writing leaves
-  too-wide-leaves e = placed.too-wide-leaves layout-730 (values-730 r) at old e
+  too-wide-leaves e = placed.too-wide-leaves (f .layout) (f .values-of r) at old e
 
-  pub no-room-leaves : writing r at (length old) ≡ 206 → leaves r at old ≡ old
+  pub no-room-leaves : writing f r at (length old) ≡ 206 → leaves f r at old ≡ old
   unfolding writing leaves
-  no-room-leaves e = placed.no-room-leaves layout-730 (values-730 r) at old e
+  no-room-leaves e = placed.no-room-leaves (f .layout) (f .values-of r) at old e
 
-  pub done-before : writing r at (length old) ≡ 0 → take at (leaves r at old) ≡ take at old
+  pub done-before : writing f r at (length old) ≡ 0 → take at (leaves f r at old) ≡ take at old
   unfolding writing leaves
-  done-before e = placed.done-before layout-730 (values-730 r) at old e
+  done-before e = placed.done-before (f .layout) (f .values-of r) at old e
 
-  pub done-after : writing r at (length old) ≡ 0 → drop (at + 64) (leaves r at old) ≡ drop (at + 64) old
+  pub done-after : writing f r at (length old) ≡ 0 → drop (at + total (f .layout)) (leaves f r at old) ≡ drop (at + total (f .layout)) old
   unfolding writing leaves
-  done-after e = placed.done-after layout-730 (values-730 r) at old e
+  done-after e = placed.done-after (f .layout) (f .values-of r) at old e

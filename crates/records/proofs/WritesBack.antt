@@ -1,39 +1,39 @@
--- Writing what was read gives the 64 characters back: a record that was read is writable, and its characters are those that were read.
+-- Writing what was read gives the characters back, whatever the file: a record that was read is writable, and its characters are those that were read.
 use Prim.Native.Nat.{ℕ, _+_, _≤_}
 use mathlib.Core.Bool.{true}
 use mathlib.Core.List.{List}
-use mathlib.Core.Path.{_≡_, ap, _∙_}
+use mathlib.Core.Path.{_≡_, ap, sym, _∙_}
 use native.Mathlib.Omega.{arith}
 use borrow.Author.Tests.{le-leb}
 use lib.ListN.{length}
 use Rattle.records.specs.Digits.{chars}
-use Rattle.records.specs.Layout.{Values, Reading, said, refused, read-by, scan, answer, fits}
-use Rattle.records.specs.File730.{layout-730, record-730, values-730, reading, writable, chars-730, writing, leaves}
-use Rattle.records.specs.declared.Record730.{Record730}
+use Rattle.records.specs.Layout.{Values, Reading, said, refused, read-by, total, scan, answer, fits}
+use Rattle.records.specs.File.{File, reading, writable, chars-of, writing, leaves}
 use Rattle.records.proofs.LayoutLaws.{spell-scan}
 use Rattle.records.proofs.ReadsBack.{leaves-there}
 
-scanned : (x : Reading (Values layout-730)) (r : Record730) → read-by record-730 x ≡ said r → x ≡ said (values-730 r)
-scanned (said v) r e =
-    let f : record-730 v ≡ r = cc in
-    ap (λ (q : Record730). said (values-730 q)) f
-scanned (refused q) r e = absurd (let z : _≡_ {A = ℕ} 0 1 = cc in let y : ⊥ = omega arith in y)
+module _ {Record : Type 0} (f : File Record) where
+  scanned : (x : Reading (Values (f .layout))) (r : Record) → read-by (f .record-of) x ≡ said r → x ≡ said (f .values-of r)
+  scanned (said v) r e =
+      let q : f .record-of v ≡ r = cc in
+      ap said (sym (f .values-back v)) ∙ ap (λ (x : Record). said (f .values-of x)) q
+  scanned (refused n) r e = absurd (let z : _≡_ {A = ℕ} 0 1 = cc in let y : ⊥ = omega arith in y)
 
-module _ (s : List ℕ) (r : Record730) (read : reading s ≡ said r) where
-  back : (fits layout-730 (values-730 r) ≡ true) × (_≡_ {A = List ℕ} (chars-730 r) s)
-  unfolding reading chars-730
-  back = spell-scan layout-730 s (values-730 r) (scanned (scan layout-730 s) r read)
+  module _ (s : List ℕ) (r : Record) (read : reading f s ≡ said r) where
+    back : (fits (f .layout) (f .values-of r) ≡ true) × (_≡_ {A = List ℕ} (chars-of f r) s)
+    unfolding reading chars-of
+    back = spell-scan (f .layout) s (f .values-of r) (scanned (scan (f .layout) s) r read)
 
-  pub read-writable : writable r ≡ true
-  unfolding writable
-  read-writable = back .0
+    pub read-writable : writable f r ≡ true
+    unfolding writable
+    read-writable = back .0
 
-  pub writes-back : chars-730 r ≡ s
-  writes-back = back .1
+    pub writes-back : chars-of f r ≡ s
+    writes-back = back .1
 
-  -- where there is room, the writer does it, and leaves these characters at the place
-  pub writes-back-at : (at : ℕ) (old : List ℕ) → at + 64 ≤ length old → (writing r at (length old) ≡ 0) × (chars (leaves r at old) at 64 ≡ s)
-  unfolding writing answer writable
-  writes-back-at at old h =
-      let done : writing r at (length old) ≡ 0 = rw (read-writable, le-leb (at + 64) (length old) h) in
-      (done, leaves-there r at old done ∙ writes-back)
+    -- where there is room, the writer does it, and leaves these characters at the place
+    pub writes-back-at : (at : ℕ) (old : List ℕ) → at + total (f .layout) ≤ length old → (writing f r at (length old) ≡ 0) × (chars (leaves f r at old) at (total (f .layout)) ≡ s)
+    unfolding writing answer writable
+    writes-back-at at old h =
+        let done : writing f r at (length old) ≡ 0 = rw (read-writable, le-leb (at + total (f .layout)) (length old) h) in
+        (done, leaves-there f r at old done ∙ writes-back)

@@ -27,6 +27,19 @@ abbrev pub Values : List Part → Type 0
 Values [] = Unit {0}
 Values (p ∷ ps) = Value p × Values ps
 
+-- the numbers in the file's order, and as many zeros
+abbrev pub in-order : (ps : List Part) → Values ps → List ℕ
+in-order [] v = []
+in-order (text t ∷ ps) v = in-order ps (v .1)
+in-order (mutation ∷ ps) v = v .0 ∷ in-order ps (v .1)
+in-order (number k ∷ ps) v = v .0 ∷ in-order ps (v .1)
+
+abbrev pub zeros : List Part → List ℕ
+zeros [] = []
+zeros (text t ∷ ps) = zeros ps
+zeros (mutation ∷ ps) = 0 ∷ zeros ps
+zeros (number k ∷ ps) = 0 ∷ zeros ps
+
 abbrev pub total : List Part → ℕ
 total [] = 0
 total (p ∷ ps) = width p + total ps

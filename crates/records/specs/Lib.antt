@@ -1,6 +1,6 @@
 pub mod Ascii
 pub mod Digits
 pub mod Layout
-pub mod File730
+pub mod File
 pub mod Numbers
 pub mod Puts

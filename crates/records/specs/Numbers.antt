@@ -1,12 +1,10 @@
 -- Document 01's numbers for each case of each answer. Assumes nothing.
 use Prim.Native.Nat.{ℕ}
-use mathlib.Core.List.{List, [], _∷_}
-use Rattle.records.specs.Layout.{Reading, said, refused}
-use Rattle.records.specs.declared.Record730.{Record730}
+use mathlib.Core.List.{List, _∷_}
+use Rattle.records.specs.Layout.{Reading, said, refused, in-order, zeros}
+use Rattle.records.specs.File.{File}
 use Rattle.records.specs.declared.ReadRefusal.{ReadRefusal}
 use Rattle.records.specs.declared.ReadRefusal.the-variants.{Length, Fixed, Digit, Mutation}
-use Rattle.records.specs.declared.Read730.{Read730}
-use Rattle.records.specs.declared.Read730.the-variants.{Record, Refused}
 use Rattle.records.specs.declared.Written.{Written}
 use Rattle.records.specs.declared.Written.the-variants.{Done, TooWide, NoRoom}
 
@@ -16,15 +14,10 @@ read-refusal Fixed = 202
 read-refusal Digit = 203
 read-refusal Mutation = 204
 
--- a result as the record or the number of the refusal
-abbrev pub says : Read730 → Reading Record730
-says (Record r) = said r
-says (Refused e) = refused (read-refusal e)
-
--- the refusal (0 where there is none), mutation digit, SRTCDE, CODE, CDHOEV, CDEENH: in a refusal all numbers returned are 0
-abbrev pub read-numbers : Reading Record730 → List ℕ
-read-numbers (said r) = 0 ∷ r .mutation ∷ r .srtcde ∷ r .code ∷ r .cdhoev ∷ r .cdeenh ∷ []
-read-numbers (refused n) = n ∷ 0 ∷ 0 ∷ 0 ∷ 0 ∷ 0 ∷ []
+-- the refusal (0 where there is none), mutation digit and the other numbers in the file's order: in a refusal all numbers returned are 0
+abbrev pub read-numbers : {Record : Type 0} → File Record → Reading Record → List ℕ
+read-numbers f (said r) = 0 ∷ in-order (f .layout) (f .values-of r)
+read-numbers f (refused n) = n ∷ zeros (f .layout)
 
 abbrev pub write-number : Written → ℕ
 write-number Done = 0

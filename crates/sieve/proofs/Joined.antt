@@ -2,6 +2,7 @@
 use Prim.Native.Nat.{ℕ}
 use mathlib.Core.Path.{_≡_, refl, sym, _∙_, ap}
 use mathlib.Core.Bool.{Bool, true, false, _&&_, and-true, and-comm}
+use Rattle.guideline.specs.declared.entries.Value.the-variants.{Blank}
 use Rattle.guideline.specs.declared.rows.Row643.{Row643}
 use Rattle.guideline.specs.declared.rows.TableName.the-variants.{T643}
 use Rattle.guideline.specs.Rows.{keyed}
@@ -11,7 +12,7 @@ use Rattle.filter.specs.declared.Filter.{Filter}
 use Rattle.filter.specs.declared.Filter.the-variants.{Every, Age, FitsMeasure}
 use Rattle.filter.specs.Filters.{filter643}
 use Rattle.sieve.specs.declared.settled.Settled.{Settled}
-use Rattle.sieve.specs.Settled.{and-age, and-frequency, and-weight, and-surface, and-measure, own-filter, other-filter, settled643}
+use Rattle.sieve.specs.Settled.{and-age, and-frequency, and-weight, and-surface, and-measure, own-value, other-value, age-filter, measure-filter, settled643}
 
 -- the test that was not there yet, at its place among the five
 second : (a q b : Bool) → (a && (q && b)) ≡ ((a && b) && q)
@@ -37,18 +38,18 @@ module _ (s : Settled) (r : Row643) where
   own = keyed T643 (s .category) r
 
   abbrev aged : Bool
-  aged = filter643 (s .age) r
+  aged = filter643 (age-filter (s .age)) r
 
   abbrev as-often : Bool
   as-often = filter643 (s .frequency) r
 
   abbrev weighed : Bool
-  weighed = filter643 (s .weight) r
+  weighed = filter643 (measure-filter Weight (s .weight)) r
 
   abbrev of-surface : Bool
-  of-surface = filter643 (s .surface) r
+  of-surface = filter643 (measure-filter Surface (s .surface)) r
 
-  pub age-joins : (x : ℕ) → s .age ≡ Every → settled643 (and-age s x) r ≡ (settled643 s r && filter643 (Age x) r)
+  pub age-joins : (x : ℕ) → s .age ≡ Blank → settled643 (and-age s x) r ≡ (settled643 s r && filter643 (Age x) r)
   unfolding settled643
   age-joins x e = rw e (second own (filter643 (Age x) r) (as-often && (weighed && of-surface)))
 
@@ -56,19 +57,19 @@ module _ (s : Settled) (r : Row643) where
   unfolding settled643
   frequency-joins q e = rw e (third own aged (filter643 q r) (weighed && of-surface))
 
-  pub weight-joins : (x : ℕ) → s .weight ≡ Every → settled643 (and-weight s x) r ≡ (settled643 s r && filter643 (FitsMeasure Weight x) r)
+  pub weight-joins : (x : ℕ) → s .weight ≡ Blank → settled643 (and-weight s x) r ≡ (settled643 s r && filter643 (FitsMeasure Weight x) r)
   unfolding settled643
   weight-joins x e = rw e (fourth own aged as-often (filter643 (FitsMeasure Weight x) r) of-surface)
 
-  pub surface-joins : (x : ℕ) → s .surface ≡ Every → settled643 (and-surface s x) r ≡ (settled643 s r && filter643 (FitsMeasure Surface x) r)
+  pub surface-joins : (x : ℕ) → s .surface ≡ Blank → settled643 (and-surface s x) r ≡ (settled643 s r && filter643 (FitsMeasure Surface x) r)
   unfolding settled643
   surface-joins x e = rw e (fifth own aged as-often weighed (filter643 (FitsMeasure Surface x) r))
 
 -- either measure
-pub measure-joins : (m : Measure) (s : Settled) (x : ℕ) → own-filter m s ≡ Every → (r : Row643) → settled643 (and-measure s m x) r ≡ (settled643 s r && filter643 (FitsMeasure m x) r)
+pub measure-joins : (m : Measure) (s : Settled) (x : ℕ) → own-value m s ≡ Blank → (r : Row643) → settled643 (and-measure s m x) r ≡ (settled643 s r && filter643 (FitsMeasure m x) r)
 measure-joins Weight s x e r = weight-joins s r x e
 measure-joins Surface s x e r = surface-joins s r x e
 
-pub other-stays : (m : Measure) (s : Settled) (x : ℕ) → other-filter m (and-measure s m x) ≡ other-filter m s
+pub other-stays : (m : Measure) (s : Settled) (x : ℕ) → other-value m (and-measure s m x) ≡ other-value m s
 other-stays Weight s x = refl
 other-stays Surface s x = refl

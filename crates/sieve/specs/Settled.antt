@@ -2,6 +2,8 @@
 use Prim.Native.Nat.{ℕ}
 use mathlib.Core.Bool.{Bool, _&&_}
 use mathlib.Core.List.{List}
+use Rattle.guideline.specs.declared.entries.Value.{Value}
+use Rattle.guideline.specs.declared.entries.Value.the-variants.{Blank, Given}
 use Rattle.guideline.specs.declared.rows.Row643.{Row643}
 use Rattle.guideline.specs.declared.rows.TableName.the-variants.{T643}
 use Rattle.guideline.specs.declared.view.View.{View}
@@ -17,11 +19,11 @@ use Rattle.sieve.specs.declared.settled.Settled.{Settled}
 
 -- the category only; and then one filter more
 abbrev pub of-category : ℕ → Settled
-of-category category = record { category = category; age = Every; frequency = Every; weight = Every; surface = Every }
+of-category category = record { category = category; age = Blank; frequency = Every; weight = Blank; surface = Blank }
 
 abbrev pub and-age : Settled → ℕ → Settled
 and-age s months =
-    record { category = s .category; age = Age months; frequency = s .frequency; weight = s .weight; surface = s .surface }
+    record { category = s .category; age = Given months; frequency = s .frequency; weight = s .weight; surface = s .surface }
 
 abbrev pub and-frequency : Settled → Filter → Settled
 and-frequency s f =
@@ -29,30 +31,41 @@ and-frequency s f =
 
 abbrev pub and-weight : Settled → ℕ → Settled
 and-weight s x =
-    record { category = s .category; age = s .age; frequency = s .frequency; weight = FitsMeasure Weight x; surface = s .surface }
+    record { category = s .category; age = s .age; frequency = s .frequency; weight = Given x; surface = s .surface }
 
 abbrev pub and-surface : Settled → ℕ → Settled
 and-surface s x =
-    record { category = s .category; age = s .age; frequency = s .frequency; weight = s .weight; surface = FitsMeasure Surface x }
+    record { category = s .category; age = s .age; frequency = s .frequency; weight = s .weight; surface = Given x }
 
 abbrev pub and-measure : Settled → Measure → ℕ → Settled
 and-measure s Weight x = and-weight s x
 and-measure s Surface x = and-surface s x
 
 -- what is settled of the measure, and of the other
-abbrev pub own-filter : Measure → Settled → Filter
-own-filter Weight s = s .weight
-own-filter Surface s = s .surface
+abbrev pub own-value : Measure → Settled → Value
+own-value Weight s = s .weight
+own-value Surface s = s .surface
 
-abbrev pub other-filter : Measure → Settled → Filter
-other-filter Weight s = s .surface
-other-filter Surface s = s .weight
+abbrev pub other-value : Measure → Settled → Value
+other-value Weight s = s .surface
+other-value Surface s = s .weight
+
+-- the filter that a value stands for: nothing is settled yet where it is blank
+abbrev pub age-filter : Value → Filter
+age-filter Blank = Every
+age-filter (Given months) = Age months
+
+abbrev pub measure-filter : Measure → Value → Filter
+measure-filter m Blank = Every
+measure-filter m (Given x) = FitsMeasure m x
 
 -- a row passes all that is settled
 unfoldable pub settled643 : Settled → Row643 → Bool
 settled643 s r =
     keyed T643 (s .category) r
-    && (filter643 (s .age) r && (filter643 (s .frequency) r && (filter643 (s .weight) r && filter643 (s .surface) r)))
+    && (filter643 (age-filter (s .age)) r
+    && (filter643 (s .frequency) r
+    && (filter643 (measure-filter Weight (s .weight)) r && filter643 (measure-filter Surface (s .surface)) r)))
 
 -- the rows of a view that pass
 unfoldable pub kept : List ℕ → View → Settled → Table Row643

@@ -3,17 +3,38 @@
 ghost use mathlib.Core.Path.{_≡_};
 ghost use mathlib.Core.Bool.{_&&_};
 ghost use Rattle.filter.specs.Filters.{filter643};
-ghost use Rattle.sieve.specs.Settled.{of-category, and-age, and-frequency, and-weight, and-surface, and-measure, settled643};
+ghost use Rattle.sieve.specs.Settled.{of-category, and-age, and-frequency, and-weight, and-surface, and-measure, age-filter, measure-filter, settled643};
 use filter::Filter;
 use filter::Measure;
+use guideline::entries::Value;
 use guideline::rows::Row643;
 
+// An age and the measures are settled by a number alone: it takes half the bytes of a filter on the stack. `Blank`: nothing is settled yet.
 pub struct Settled {
     pub category: u32,
-    pub age: Filter,
+    pub age: Value,
     pub frequency: Filter,
-    pub weight: Filter,
-    pub surface: Filter,
+    pub weight: Value,
+    pub surface: Value,
+}
+
+// All rows pass where nothing is settled yet.
+fn fits_age(r: Row643, age: Value) -> bool
+    ensures { λ b. ⌜ b ≡ filter643 (age-filter age) r ⌝ }
+{
+    match age {
+        Value::Blank => true,
+        Value::Given(months) => filter::fits_age(r, months),
+    }
+}
+
+fn fits_measure(r: Row643, m: Measure, value: Value) -> bool
+    ensures { λ b. ⌜ b ≡ filter643 (measure-filter m value) r ⌝ }
+{
+    match value {
+        Value::Blank => true,
+        Value::Given(x) => filter::fits_measure(r, m, x),
+    }
 }
 
 impl Settled {
@@ -23,10 +44,10 @@ impl Settled {
     {
         Settled {
             category,
-            age: Filter::Every,
+            age: Value::Blank,
             frequency: Filter::Every,
-            weight: Filter::Every,
-            surface: Filter::Every,
+            weight: Value::Blank,
+            surface: Value::Blank,
         }
     }
 
@@ -39,7 +60,7 @@ impl Settled {
         let surface = self.surface;
         Settled {
             category: self.category,
-            age: Filter::Age(months),
+            age: Value::Given(months),
             frequency,
             weight,
             surface,
@@ -73,7 +94,7 @@ impl Settled {
             category: self.category,
             age,
             frequency,
-            weight: Filter::FitsMeasure(Measure::Weight, x),
+            weight: Value::Given(x),
             surface,
         }
     }
@@ -89,7 +110,7 @@ impl Settled {
             age,
             frequency,
             weight,
-            surface: Filter::FitsMeasure(Measure::Surface, x),
+            surface: Value::Given(x),
         }
     }
 
@@ -111,10 +132,10 @@ impl Settled {
         let weight = self.weight;
         let surface = self.surface;
         let of_category = r.gpdcat == self.category;
-        let by_age = filter::passes(r, age);
+        let by_age = fits_age(r, age);
         let by_frequency = filter::passes(r, frequency);
-        let by_weight = filter::passes(r, weight);
-        let by_surface = filter::passes(r, surface);
+        let by_weight = fits_measure(r, Measure::Weight, weight);
+        let by_surface = fits_measure(r, Measure::Surface, surface);
         let measured = guideline::both(by_weight, by_surface);
         guideline::both(
             of_category,

@@ -9,7 +9,7 @@ use Rattle.decimals.specs.Decimal.{space, line-feed, field}
 use Rattle.records.specs.Ascii.{ascii}
 use Rattle.records.specs.Digits.{digits}
 use Rattle.records.specs.Layout.{said, refused}
-use Rattle.records.specs.declared.Record730.{Record730}
+use Rattle.records_730.specs.declared.Record730.{Record730}
 use Rattle.unit_line.specs.Line.{point, amount, line}
 
 abbrev pub three-decimals : ℕ → List ℕ

@@ -5,15 +5,16 @@ ghost use lib.ListN.{length};
 ghost use Rattle.decimals.specs.Decimal.{space};
 ghost use Rattle.decimals.specs.Put.{Put};
 ghost use Rattle.records.specs.Layout.{said, refused};
-ghost use Rattle.records.specs.Numbers.{read-refusal, says};
+ghost use Rattle.records.specs.Numbers.{read-refusal};
+ghost use Rattle.records_730.specs.File730.{says-730};
 ghost use Rattle.unit_line.specs.Line.{amount, line};
 use decimals::LINE_FEED;
 use decimals::SPACE;
 use decimals::put_field;
 use decimals::put_text;
-use records::Read730;
 use records::ReadRefusal;
-use records::Record730;
+use records_730::Read730;
+use records_730::Record730;
 
 const POINT: u8 = b'.';
 
@@ -61,8 +62,8 @@ fn put_refused(out: &mut [u8], at: usize, e: ReadRefusal) -> usize
 }
 
 pub fn put_line(out: &mut [u8], at: usize, v: Read730) -> usize
-    requires { ⌜ at + length (line (says v)) ≤ length (now out) ⌝ }
-    ensures { λ r. ⌜ Put (now (out .entry)) at (line (says v)) (now (out .exit)) r ⌝ }
+    requires { ⌜ at + length (line (says-730 v)) ≤ length (now out) ⌝ }
+    ensures { λ r. ⌜ Put (now (out .entry)) at (line (says-730 v)) (now (out .exit)) r ⌝ }
 {
     match v {
         Read730::Record(r) => put_row(out, at, r),

@@ -4,10 +4,11 @@ use mathlib.Core.List.{List}
 use mathlib.Core.Path.{_≡_, refl}
 use native.Mathlib.Omega.{arith}
 use lib.ListN.{length}
-use Rattle.records.specs.File730.{reading}
+use Rattle.records.specs.File.{reading}
 use Rattle.records.specs.Layout.{Reading, said, refused}
-use Rattle.records.specs.declared.Record730.{Record730}
-use Rattle.records.proofs.Bounds.{Bounds, read-bounds, refusal-bounds}
+use Rattle.records_730.specs.declared.Record730.{Record730}
+use Rattle.records_730.specs.File730.{file-730}
+use Rattle.records_730.proofs.Laws.{holds-730, Bounds730, read-bounds-730}
 use Rattle.decimals.specs.Decimal.{space, line-feed}
 use Rattle.unit_line.specs.Line.{point, line}
 use Rattle.unit_lines.specs.Records.{line-of}
@@ -15,7 +16,7 @@ use Rattle.unit_lines.specs.Machine.{longest-line}
 use Rattle.decimals.proofs.Decimal.{field-most}
 use Rattle.unit_line.proofs.Pieces.{length-row, length-amount, length-refused}
 
-row-most : (r : Record730) → Bounds r → length (line (said r)) ≤ longest-line
+row-most : (r : Record730) → Bounds730 r → length (line (said r)) ≤ longest-line
 row-most r b =
     let h = b .cdhoev in
     omega (
@@ -28,7 +29,7 @@ row-most r b =
       field-most 5 (r .cdeenh) line-feed (b .cdeenh),
     )
 
-most : (v : Reading Record730) → ((r : Record730) → v ≡ said r → Bounds r) → ((n : ℕ) → v ≡ refused n → n ≤ 204) → length (line v) ≤ longest-line
+most : (v : Reading Record730) → ((r : Record730) → v ≡ said r → Bounds730 r) → ((n : ℕ) → v ≡ refused n → n ≤ 204) → length (line v) ≤ longest-line
 most (said r) f g = row-most r (f r refl)
 most (refused n) f g =
     let h : n ≤ 204 = g n refl in
@@ -36,4 +37,4 @@ most (refused n) f g =
 
 pub longest : (t : List ℕ) → length (line-of t) ≤ longest-line
 unfolding line-of
-longest t = most (reading t) (λ r e. read-bounds t r e) (λ n e. refusal-bounds t n e .1)
+longest t = most (reading file-730 t) (λ r e. read-bounds-730 t r e) (λ n e. holds-730 .refusal-bounds t n e .1)

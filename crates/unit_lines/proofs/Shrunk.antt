@@ -10,7 +10,8 @@ use borrow.Author.Tests.{le-leb, lt-leb, ne-eqb}
 use lib.ListN.{length, take, drop, length-append}
 use lib.Seq.{getD-append-add, take-append-le, length-take-le, take-append-seam, sets-eq}
 use Rattle.records.specs.Layout.{refused, scan}
-use Rattle.records.specs.File730.{reading}
+use Rattle.records.specs.File.{reading}
+use Rattle.records_730.specs.File730.{file-730}
 use Rattle.unit_line.specs.Line.{line}
 use Rattle.unit_lines.specs.Records.{crlf, line-of, lines-of, unless-empty}
 use Rattle.unit_lines.specs.Machine.{last-of, but-last, go-on, kept-most, shrunk, no-bytes, keep, text-of}
@@ -40,7 +41,7 @@ kept-text t =
 
 -- a record of any other length is refused, whatever it holds
 pub line-length : (t : List ℕ) → (length t ≡ 64 → ⊥) → line-of t ≡ line (refused 201)
-unfolding line-of reading scan
+unfolding line-of file-730 reading scan
 line-length t h = rw (ne-eqb (length t) 64 h)
 
 pub last-append : (t : List ℕ) (c : ℕ) (u : List ℕ) → last-of (t ++ (c ∷ u)) ≡ last-of (c ∷ u)

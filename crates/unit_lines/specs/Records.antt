@@ -3,7 +3,8 @@ use Prim.Native.Nat.{ℕ}
 use mathlib.Core.Bool.{Bool, cond, _&&_}
 use mathlib.Core.List.{List, [], _∷_, _++_}
 use lib.Dec.{eqb}
-use Rattle.records.specs.File730.{reading}
+use Rattle.records.specs.File.{reading}
+use Rattle.records_730.specs.File730.{file-730}
 use Rattle.decimals.specs.Decimal.{line-feed}
 use Rattle.unit_line.specs.Line.{line}
 
@@ -41,7 +42,7 @@ unfoldable pub records-of : List ℕ → List (List ℕ)
 records-of s = split s .ended ++ unless-empty (split s .rest)
 
 unfoldable pub line-of : List ℕ → List ℕ
-line-of t = line (reading t)
+line-of t = line (reading file-730 t)
 
 unfoldable pub lines-of : List (List ℕ) → List ℕ
 lines-of [] = []

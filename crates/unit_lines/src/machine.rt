@@ -61,7 +61,7 @@ fn list_text(text: &[u8], out: &mut [u8], at: usize) -> usize
     requires { ⌜ at + longest-line ≤ length (now out) ⌝ }
     ensures { λ r. ⌜ Put (now (out .entry)) at (line-of (now (text .entry))) (now (out .exit)) r ⌝ }
 {
-    put_line(out, at, records::read_730(text))
+    put_line(out, at, records_730::read_730(text))
 }
 
 // Where the text that goes on begins, up to where the input was taken, and the place behind the lines.

@@ -3,7 +3,7 @@ use mathlib.Core.Path.{refl}
 use borrow.Author.Needs.{needs}
 use native.Mathlib.Omega.{arith}
 use Rattle.call_stream.specs.Lines.{broken-line}
-use Rattle.call_stream.proofs.Lining.{last-none, last-some}
+use Rattle.call_stream.proofs.Ending.{last-none, last-some}
 use Rattle.call_stream.proofs.finish.Statement.{statement}
 use Rattle.call_stream.proofs.finish.Tie as tie
 

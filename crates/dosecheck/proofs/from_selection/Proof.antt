@@ -8,14 +8,14 @@ use Rattle.guideline.specs.declared.answer.Reached.{Reached}
 use Rattle.guideline.specs.declared.context.Selected.{Selected}
 use Rattle.guideline.specs.declared.rows.Row649.{Row649}
 use Rattle.guideline.specs.declared.rows.TableName.the-variants.{T640, T641, T642, T643, T649}
-use Rattle.guideline.specs.Ask.{Outcome, Chosen, run}
+use Rattle.guideline.specs.Ask.{Outcome, Chosen, run, after}
 use Rattle.guideline.specs.Bytes.{rows-of}
 use Rattle.guideline.specs.Entries.{datum}
 use Rattle.guideline.specs.Rows.{sound-row}
 use Rattle.guideline.specs.Steps.{comparison, to-rule}
 use Rattle.guideline.specs.Check.{answer, refused, compared}
 use Rattle.guideline.proofs.Gives.{gives-table}
-use Rattle.guideline.proofs.Run.{after, run-bind}
+use Rattle.guideline.proofs.Run.{run-bind}
 use Rattle.cells.specs.Lents.{rows, shown}
 use Rattle.selection.specs.Links.{from-product}
 use Rattle.selection.specs.Selecting.{refusal, reached}

@@ -9,9 +9,9 @@ use Rattle.each_count.proofs.check_each.Tie as tie
 
 returns : tie.Need-returns
 returns c =
-    let a = c .before .before .before .before .before .before .before .before .before .before .args in
+    let a = c .before .before .before .before .before .before .before .before .before .before .before .args in
     let said = c .before .before .count .ensures in
-    (said, sym (refused-list (spelled (lents (now (a .t640)) (now (a .t641)) (now (a .t642)) (now (a .t643)) (now (a .t649)) (now (a .t730)))) (a .e) (a .first) (a .last) (now (a .list)) _ (sym said ∙ c .enum-told2 .given .1)))
+    (said, sym (refused-list (spelled (lents (now (a .t640)) (now (a .t641)) (now (a .t642)) (now (a .t643)) (now (a .t649)) (now (a .t730)) (now (a .t070)))) (a .e) (a .first) (a .last) (now (a .list)) _ (sym said ∙ c .enum-told2 .given .1)))
 
 pub check-each-spec : {M : Type 1} → statement M
 check-each-spec =

@@ -4,7 +4,7 @@ use Rattle.case_lines.proofs.range.answer.Statement.{statement}
 use Rattle.case_lines.proofs.range.answer.Tie as tie
 
 check-each-after-requires : tie.Need-check-each-after-requires
-check-each-after-requires c κs = rw (c .before .before .test .given .1) at (c .before .before .before .before .before .before .before .before .before .before .before .pre)
+check-each-after-requires c κs = rw (c .before .before .test .given .1) at (c .before .before .before .before .before .before .before .before .before .before .before .before .pre)
 
 pub answer-spec : {M : Type 1} → statement M
 answer-spec =

@@ -14,7 +14,7 @@ use Rattle.cells.proofs.Views.{narrowed-first, narrowed-fits}
 use Rattle.filter.specs.declared.Filter.the-variants.{FitsMeasure, Matters}
 use Rattle.filter.specs.Filters.{filter643, measure-bounds}
 use Rattle.dose_row.specs.Measured.{question-of, ending-of}
-use Rattle.sieve.specs.Settled.{and-measure, other-filter, kept}
+use Rattle.sieve.specs.Settled.{and-measure, other-value, kept}
 use Rattle.sieve.proofs.Joined.{measure-joins, other-stays}
 use Rattle.sieve.proofs.Kept.{first-none, first-some, narrowed-kept}
 use Rattle.dose_row.proofs.Narrowed.{narrow-none, narrow-some, measure-unneeded, measure-blank, measure-given}
@@ -88,7 +88,7 @@ returns-4 c =
     let inside = narrowed-fits i (a .v .rows) (at-first .first2 .ensures .0) (omega arith) (at-start .pre .0) in
     let left = narrowed-kept l (a .v) (a .s) (and-measure (a .s) (a .m) x) (FitsMeasure (a .m) x) (measure-joins (a .m) (a .s) x (at-start .pre .1)) (at-first .first2 .ensures) (at-narrow .narrow .ensures) (c .by-measure .ensures) in (
       rw (at-narrow .narrow .ensures) inside,
-      ap (other-filter (a .m)) (c .by-measure .ensures) ∙ other-stays (a .m) (a .s) x,
+      ap (other-value (a .m)) (c .by-measure .ensures) ∙ other-stays (a .m) (a .s) x,
       λ d e.
           measure-given (question-of (a .m)) (ending-of (a .m)) (measure-bounds (a .m)) t d needed (e ∙ at-given .value .given .1)
           ∙ narrow-some (λ r. fits (measure-bounds (a .m) r) x) t d (ending-of (a .m)) some-left

@@ -7,7 +7,7 @@ use Rattle.guideline.specs.declared.refusals.Refusal.the-variants.{Asks}
 use Rattle.guideline.specs.Ask.{Chosen, Refused}
 use Rattle.filter.specs.declared.Filter.the-variants.{FitsMeasure, Matters}
 use Rattle.filter.specs.Filters.{filter643, measure-bounds}
-use Rattle.sieve.specs.Settled.{and-measure, other-filter, kept}
+use Rattle.sieve.specs.Settled.{and-measure, other-value, kept}
 use Rattle.sieve.proofs.Joined.{measure-joins, other-stays}
 use Rattle.sieve.proofs.Kept.{first-none, first-some, joined-kept}
 use Rattle.quiet.specs.Fitted.{question-of}
@@ -46,7 +46,7 @@ returns-3 c =
     let x = at-given .value .given .0 .0 in
     let needed = first-some l (a .v) (a .s) (filter643 (Matters (a .m))) (at-matters .first .ensures) (at-if .if1 .left) in
     let left = ap (kept l (a .v)) (c .by-measure .ensures) ∙ joined-kept l (a .v) (a .s) (and-measure (a .s) (a .m) x) (FitsMeasure (a .m) x) (measure-joins (a .m) (a .s) x (at-start .pre .1)) in (
-      ap (other-filter (a .m)) (c .by-measure .ensures) ∙ other-stays (a .m) (a .s) x,
+      ap (other-value (a .m)) (c .by-measure .ensures) ∙ other-stays (a .m) (a .s) x,
       λ d e.
           fitting-given (question-of (a .m)) (measure-bounds (a .m)) (kept l (a .v) (a .s)) d needed (e ∙ at-given .value .given .1)
           ∙ ap Chosen (sym left),

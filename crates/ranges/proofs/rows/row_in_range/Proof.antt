@@ -65,5 +65,15 @@ returns-6 c =
     let a = c .before .before .before .before .before .args in
     known-test (c .before .before .enum-told6 .given .1) (now (a .t)) (a .v) (a .i) (c .before .row6 .ensures) (c .in-range6 .ensures)
 
+row-requires-7 : tie.Need-row-requires-7
+row-requires-7 c κs =
+    let a = c .before .before .before .args in
+    known-inside (c .enum-told7 .given .1) (now (a .t)) (a .v) (a .i) (c .before .before .before .pre)
+
+returns-7 : tie.Need-returns-7
+returns-7 c =
+    let a = c .before .before .before .before .before .args in
+    known-test (c .before .before .enum-told7 .given .1) (now (a .t)) (a .v) (a .i) (c .before .row7 .ensures) (c .in-range7 .ensures)
+
 pub row-in-range-spec : {M : Type 1} → statement M
-row-in-range-spec = tie.close (tie.spec (λ c. search needs) row-requires (λ c κs. search needs) (λ c. search needs) row-requires-2 (λ c κs. search needs) (λ c. search needs) row-requires-3 (λ c κs. search needs) (λ c. search needs) row-requires-4 (λ c κs. search needs) (λ c. search needs) row-requires-5 (λ c κs. search needs) (λ c. search needs) row-requires-6 (λ c κs. search needs) returns returns-2 returns-3 returns-4 returns-5 returns-6)
+row-in-range-spec = tie.close (tie.spec (λ c. search needs) row-requires (λ c κs. search needs) (λ c. search needs) row-requires-2 (λ c κs. search needs) (λ c. search needs) row-requires-3 (λ c κs. search needs) (λ c. search needs) row-requires-4 (λ c κs. search needs) (λ c. search needs) row-requires-5 (λ c κs. search needs) (λ c. search needs) row-requires-6 (λ c κs. search needs) (λ c. search needs) row-requires-7 (λ c κs. search needs) returns returns-2 returns-3 returns-4 returns-5 returns-6 returns-7)

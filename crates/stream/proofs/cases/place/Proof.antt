@@ -22,5 +22,8 @@ returns-5 c = (rw (c .enum-told5 .given .1) refl, search needs)
 returns-6 : tie.Need-returns-6
 returns-6 c = (rw (c .enum-told6 .given .1) refl, search needs)
 
+returns-7 : tie.Need-returns-7
+returns-7 c = (rw (c .enum-told7 .given .1) refl, search needs)
+
 pub place-spec : {M : Type 1} → statement M
-place-spec = tie.close (tie.spec (λ c. search needs) (λ c. search needs) (λ c. search needs) (λ c. search needs) (λ c. search needs) (λ c. search needs) returns returns-2 returns-3 returns-4 returns-5 returns-6)
+place-spec = tie.close (tie.spec (λ c. search needs) (λ c. search needs) (λ c. search needs) (λ c. search needs) (λ c. search needs) (λ c. search needs) (λ c. search needs) returns returns-2 returns-3 returns-4 returns-5 returns-6 returns-7)

@@ -12,7 +12,7 @@ returns c =
     let at-surface = at-measured .before in
     let at-weight = at-surface .before in
     let at-frequency = at-weight .before in
-    rw (c .both4 .ensures, c .before .both3 .ensures, c .before .before .both2 .ensures, at-measured .both .ensures, at-surface .passes4 .ensures, at-weight .passes3 .ensures, at-frequency .passes2 .ensures, at-frequency .before .passes .ensures)
+    rw (c .both4 .ensures, c .before .both3 .ensures, c .before .before .both2 .ensures, at-measured .both .ensures, at-surface .fits-measure2 .ensures, at-weight .fits-measure .ensures, at-frequency .passes .ensures, at-frequency .before .fits-age .ensures)
 
 pub passes-spec : {M : Type 1} → statement M
 passes-spec = tie.close (tie.spec (λ c κs. search needs) (λ c κs. search needs) (λ c κs. search needs) (λ c κs. search needs) (λ c κs. search needs) (λ c κs. search needs) (λ c κs. search needs) (λ c κs. search needs) returns)
