@@ -17,7 +17,8 @@ use std::time::Instant;
 const HELP: &str = "cases: random and stored cases, and the comparison of a program with the second program on them
 
   cases generate answers|counts|units|calls RUN
-                                   the run's cases, cases of ranges, unit files or calls of file 730 as one input
+                                   the run's cases, cases of ranges, unit files or calls of files 730 and 070 as one
+                                   input
   cases cover RUN                  how often each test gave its answer; fails if one that can occur did not
   cases searches RUN               the case that first tells each wrong search; fails if one is not told
   cases compare RUN [--answers PROGRAM] [--counts PROGRAM] [--units PROGRAM] [--calls PROGRAM]

@@ -295,8 +295,8 @@ fn a_case_is_whole_or_broken() {
     let answer = "100 0 0 1500 33784 1 0 0 0\n";
     assert_eq!(stream(b""), "");
     assert_eq!(stream(&bytes), answer);
-    assert_eq!(stream(&[0; 28]), "");
-    for end in [1, 27, 28, 29, bytes.len() - 1] {
+    assert_eq!(stream(&[0; 32]), "");
+    for end in [1, 31, 32, 33, bytes.len() - 1] {
         assert_eq!(stream(&bytes[..end]), "broken\n", "cut at {end}");
         assert_eq!(stream(&[&bytes, &bytes[..end]].concat()), format!("{answer}broken\n"), "cut at {end}");
     }
@@ -312,7 +312,7 @@ fn an_entry_is_parsed_once_and_checked_alike() {
     let tables = k_case();
     let bytes = tables.bytes();
     let header = second::stream::Header::new(bytes.first_chunk().expect("a header"));
-    let (parts, _) = second::stream::parts(&header, &bytes[28..]);
+    let (parts, _) = second::stream::parts(&header, &bytes[32..]);
     let lent = Lent::new(parts);
     for (name, changes, expected) in K {
         assert_eq!(check(&lent, &Entry::new(changed(changes))).numbers, expected, "{name}");

@@ -1,6 +1,6 @@
 //! The standard run reaches every test, and so do the stored vectors; wrong programs are told, each by a small case.
 
-use cases::generate::calls::call_case;
+use cases::generate::calls::{call_case, stream};
 use cases::generate::counts::{count_case, CountCase};
 use cases::generate::{self, calls::CallCase, case::Case, full, proof_ranges, proof_table};
 use cases::run::compare::Programs;
@@ -81,15 +81,16 @@ fn the_stored_files_are_these_vectors() {
     let (stdin, stdout) = store::stream(&STORED);
     assert!(file("answers/stdin") == stdin && file("answers/stdout") == stdout, "run tools/store-cases");
     assert!(stdin.starts_with(&proof_table::with(&proof_table::K[..proof_table::BEFORE_P1]).bytes()));
-    let later = [store::key_cases(), store::p1_cases(), store::p3_cases(), store::p4_cases()].concat().len();
-    assert!(STORED.len() == store::CASES + later && store::CASES >= 3_000 && stdin.len() < 5_300_000);
+    let later = [store::key_cases(), store::p1_cases(), store::p3_cases(), store::p4_cases(), store::p5_cases()];
+    assert!(STORED.len() == store::CASES + later.concat().len() && store::CASES >= 3_000 && stdin.len() < 5_400_000);
     let units = store::unit_input();
     assert!(file("unit_list/stdin").starts_with(&units), "run tools/store-cases");
     assert!(file("unit_list/stdout").starts_with(&unit_list(&units)), "run tools/store-cases");
     let (stdin, stdout) = (store::call_input(), calls(&store::call_input()));
     assert!(file("record_calls/stdin") == stdin && file("record_calls/stdout") == stdout, "run tools/store-cases");
     assert!(stdout.ends_with(b"\nbroken\n") && stdin.len() + stdout.len() < 1_000_000);
-    assert_eq!(stdout.iter().filter(|c| **c == b'\n').count(), store::CALLS + 1);
+    assert_eq!(stdout.iter().filter(|c| **c == b'\n').count(), store::CALLS + store::CALLS_070 + 1);
+    assert!(stdin.starts_with(&stream(&store::calls_before_p5())));
 }
 
 /// K1 to K15 for 1, 2 and 3 first, and a broken case last, which by the second program has no line of its own.
@@ -99,7 +100,7 @@ fn the_stored_ranges_are_these_vectors() {
     let (stdin, stdout) = store_counts::stream(&cases);
     assert!(file("counts/stdin") == stdin && file("counts/stdout") == stdout, "run tools/store-cases");
     assert!(stdin.starts_with(&proof_ranges::k_1_to_3().bytes()) && stdout.ends_with(b"\nbroken\n"));
-    let later = store_counts::p3_cases().len() + store_counts::p4_cases().len();
+    let later = [store_counts::p3_cases(), store_counts::p4_cases(), store_counts::p5_cases()].concat().len();
     assert!(cases.len() == store_counts::CASES + later && stdin.len() < 500_000);
     let mut lines = vec![];
     run(&COUNTS, &stdin[..], &mut lines).expect("a slice is read and a vector written");
@@ -155,7 +156,8 @@ fn full_categories_are_stored() {
 fn every_wrong_search_is_told() {
     assert_eq!(searches::run(STANDARD_SEED, STANDARD_CASES / 5).untold(), []);
     let mut stored = Searches::new();
-    store::key_cases().iter().chain(&store::p4_cases()).for_each(|case| stored.tell(case, 0));
+    let cases = [store::key_cases(), store::p4_cases(), store::p5_cases()].concat();
+    cases.iter().for_each(|case| stored.tell(case, 0));
     assert_eq!(stored.untold(), []);
 }
 
@@ -226,7 +228,7 @@ fn told(of: &str, name: &str, filter: &str) -> (String, usize) {
 }
 
 /// A weight outside all rows needs a row of each of four tables, and an entry.
-const FOUR_ROWS: usize = 28 + 12 + 20 + 24 + 40 + 84;
+const FOUR_ROWS: usize = 32 + 12 + 20 + 24 + 40 + 84;
 
 #[test]
 fn a_wrong_check_is_told_by_a_small_case() {
@@ -238,12 +240,16 @@ fn a_wrong_check_is_told_by_a_small_case() {
     assert_eq!(told("answers", "more-lines", "sed '/^118 14 /p'").1, FOUR_ROWS);
     let (what, _) = told("answers", "bad-end", "awk '{ print } /^118 14 / { exit 3 }'");
     assert!(what.contains("ended with exit status: 3"), "{what}");
-    assert_eq!(told("answers", "nothing", "cat >/dev/null").1, 28 + 84);
+    assert_eq!(told("answers", "nothing", "cat >/dev/null").1, 32 + 84);
+    // Of table 70 one row, and two.
+    let (what, length) = told("answers", "differs", "sed 's/^133 0 /133 16 /'");
+    assert_eq!(length, 32 + 24 + 84, "{what}");
+    assert_eq!(told("answers", "several-70", "sed 's/^123 0 70 /133 0 0 /'").1, 32 + 48 + 84);
     assert!(comparison(&room("no-program"), "answers", "no such program").is_err());
 }
 
 /// A range of no places, or of no count, needs no row.
-const NO_ROW: usize = 28 + 96;
+const NO_ROW: usize = 32 + 96;
 
 #[test]
 fn a_wrong_range_is_told_by_a_small_case() {
@@ -271,6 +277,8 @@ fn a_wrong_record_is_told_by_a_small_input() {
     assert_eq!(told("calls", "no-room", "sed 's/^206 /205 /'").1, 44);
     assert_eq!(told("calls", "written", "sed 's/^0 20*30/1 &/; s/^0 30/1 &/'").1, 44 + 64);
     assert_eq!(told("calls", "not-broken", "sed '/^broken/d'").1, 1);
+    // A reading of 070 has eight numbers in its line, one of 730 six.
+    assert_eq!(told("calls", "read-070", "sed -E 's/^(0( [0-9]+){6}) [0-9]+$/\\1/'").1, 12 + 64);
 }
 
 #[test]
@@ -280,12 +288,15 @@ fn demand_3_holds_and_a_wrong_question_is_told() {
     for (of, bytes) in [("answers", FOUR_ROWS), ("counts", FOUR_ROWS + 12)] {
         let judged = demand3::run(of, &program(of), 5, 0..2_000, &report).expect("demand 3");
         assert!(judged.fillings_of_the_question > 1_000 && judged.fillings_of_other_answers > 1_000, "{judged:?}");
-        assert!(judged.fillings_of_step_9 > 500, "{judged:?}");
+        assert!(judged.fillings_of_step_9 > 500 && judged.filled_by_hpk > 2_000, "{judged:?}");
         let wrong = |name: &str, filter: &str| wrong(of, &format!("{of}-{name}"), filter);
         let wrong_question = wrong("wrong-question", "sed 's/^105 10 /106 11 /'");
         let what = demand3::run(of, &wrong_question, 5, 0..2_000, &report).expect_err("a wrong question");
         assert!(what.starts_with("demand 3 is broken"), "{what}");
-        assert!(what.contains("106 asks for surface, which is given"), "{what}");
+        // One that asks for the PRK where it differs from the HPK's.
+        let asks = wrong("differs", "sed 's/^133 0 /104 16 /'");
+        let what = demand3::run(of, &asks, 5, 0..2_000, &report).expect_err("a wrong question");
+        assert!(what.starts_with("demand 3 is broken") && what.contains("104 asks for PRK, which is given"), "{what}");
         // One that is steady, and differs all the same.
         let steady = wrong("wrong-and-steady", "sed 's/^118 14 /118 15 /'");
         let what = demand3::run(of, &steady, 5, 0..2_000, &report).expect_err("a difference");
@@ -297,13 +308,13 @@ fn demand_3_holds_and_a_wrong_question_is_told() {
 
 #[test]
 fn the_same_seed_gives_the_same_stream() {
-    let stream = |seed: u64| {
+    let cases = |seed: u64| {
         let mut bytes = vec![];
         (20..400).for_each(|number| generate::case(seed, number).write(&mut bytes));
         bytes
     };
-    assert_eq!(stream(3), stream(3));
-    assert_ne!(stream(3), stream(4));
+    assert_eq!(cases(3), cases(3));
+    assert_ne!(cases(3), cases(4));
     assert_eq!(compare::input::<CountCase>(3, 20..400), compare::input::<CountCase>(3, 20..400));
     assert_ne!(compare::input::<CountCase>(3, 20..400), compare::input::<CountCase>(4, 20..400));
     assert_eq!(compare::input::<UnitFile>(3, 0..50), compare::input::<UnitFile>(3, 0..50));

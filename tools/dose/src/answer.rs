@@ -42,6 +42,9 @@ impl Answer {
         if suppressed != 0 && !answer.is_of_suppression() {
             return Err(format!("`{line}`: this is no answer with a suppressed signal, by document 02, P4"));
         }
+        if answer.answer == words::OTHER_THAN_HPK && answer.numbers()[1..] != [0; NAMES.len() - 1] {
+            return Err(format!("`{line}`: all other numbers of {} are 0", answer.answer));
+        }
         Ok(answer)
     }
 

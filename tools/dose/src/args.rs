@@ -1,6 +1,7 @@
 //! The words after `dose`.
 
 use crate::check::Check;
+use crate::records::Products;
 use crate::units::Units;
 use std::ffi::OsString;
 use std::path::PathBuf;
@@ -9,24 +10,29 @@ pub enum Command {
     Help,
     Check(Check),
     Units(Units),
+    Products(Products),
 }
 
 pub fn read(words: impl Iterator<Item = OsString>) -> Result<Command, String> {
     let mut words = words;
-    let Some(command) = words.next() else { return Err("say what to do: check, units or help".to_string()) };
+    let Some(command) = words.next() else {
+        return Err("say what to do: check, units, products or help".to_string());
+    };
     let options = Options::read(words)?;
     match command.to_str() {
         Some("help" | "--help" | "-h") => Ok(Command::Help),
         Some("check") => {
             let [tables, entries] = options.files("check TABLES ENTRIES")?;
-            let Options { is_csv, program, counts_program, .. } = options;
-            Ok(Command::Check(Check { tables, entries, is_csv, program, counts_program }))
+            let Options { is_csv, program, counts_program, calls_program, .. } = options;
+            Ok(Command::Check(Check { tables, entries, is_csv, program, counts_program, calls_program }))
         }
-        Some("units") if options.is_csv => Err("units has no --csv".to_string()),
-        Some("units") if options.counts_program.is_some() => Err("units has no --counts-program".to_string()),
         Some("units") => {
-            let [file] = options.files("units FILE")?;
+            let [file] = options.of_list("units")?.files("units FILE")?;
             Ok(Command::Units(Units { file, program: options.program }))
+        }
+        Some("products") => {
+            let [file] = options.of_list("products")?.files("products FILE")?;
+            Ok(Command::Products(Products { file, program: options.program }))
         }
         _ => Err(format!("`{}` is not a command", command.to_string_lossy())),
     }
@@ -38,6 +44,7 @@ struct Options {
     is_csv: bool,
     program: Option<PathBuf>,
     counts_program: Option<PathBuf>,
+    calls_program: Option<PathBuf>,
 }
 
 impl Options {
@@ -53,11 +60,28 @@ impl Options {
                     let path = words.next().ok_or("--counts-program needs a PATH")?;
                     options.counts_program = Some(path.into());
                 }
+                Some("--calls-program") => {
+                    let path = words.next().ok_or("--calls-program needs a PATH")?;
+                    options.calls_program = Some(path.into());
+                }
                 Some(other) if other.starts_with("--") => return Err(format!("`{other}` is not an option")),
                 _ => options.files.push(word.into()),
             }
         }
         Ok(options)
+    }
+
+    /// A list has one program, and is no CSV.
+    fn of_list(&self, command: &str) -> Result<&Options, String> {
+        let others = [
+            ("--csv", self.is_csv),
+            ("--counts-program", self.counts_program.is_some()),
+            ("--calls-program", self.calls_program.is_some()),
+        ];
+        match others.iter().find(|(_, is_given)| *is_given) {
+            Some((option, _)) => Err(format!("{command} has no {option}")),
+            None => Ok(self),
+        }
     }
 
     fn files<const N: usize>(&self, usage: &str) -> Result<[PathBuf; N], String> {

@@ -1,16 +1,18 @@
 //! `dose check`: nothing is sent unless all files are sound, and nothing is printed unless all lines are.
 
 use crate::ask::{self, Line, Part};
-use crate::columns::{ENTRY, LIMITS, TABLES};
+use crate::columns::{ENTRY, LIMITS, LINKS, LINK_RECORDS, TABLES};
 use crate::due::{self, Due};
 use crate::failure::{Failure, Fault};
 use crate::limits::Limits;
+use crate::links::Links;
 use crate::program::{ANSWERS, COUNTS};
+use crate::records;
 use crate::report;
 use crate::sheet::{self, Names, Sheet};
 use crate::stream::{Stream, Tables};
 use std::io::{self, BufWriter};
-use std::path::PathBuf;
+use std::path::{Path, PathBuf};
 
 pub struct Check {
     pub tables: PathBuf,
@@ -19,12 +21,15 @@ pub struct Check {
     /// Where the programs `answers` and `counts` are, if that was said.
     pub program: Option<PathBuf>,
     pub counts_program: Option<PathBuf>,
+    /// Where `record_calls` is, if that was said.
+    pub calls_program: Option<PathBuf>,
 }
 
 pub fn run(check: &Check) -> Result<(), Failure> {
-    let (tables, entries) = read(check).map_err(Failure::Refused)?;
+    let (tables, entries) = read(check)?;
     let bytes = Tables::new(check.tables.display().to_string(), &tables);
-    let parts = parts(check, &bytes, &entries).map_err(|fault| Failure::Refused(vec![fault]))?;
+    let links = Links::new(table(&tables, LINKS));
+    let parts = parts(check, &bytes, &entries, &links).map_err(|fault| Failure::Refused(vec![fault]))?;
     if entries.len() == 0 {
         eprintln!("dose: {} has no entries", check.entries.display());
     }
@@ -33,28 +38,85 @@ pub fn run(check: &Check) -> Result<(), Failure> {
         .map_err(|e| Failure::Program(format!("the answers cannot be written: {e}")))
 }
 
-/// All seven files, or the faults of all of them.
-fn read(check: &Check) -> Result<(Vec<Sheet>, Sheet), Vec<Fault>> {
-    let mut tables = Vec::new();
-    let mut faults = Vec::new();
+fn table<'a>(tables: &'a [Sheet], file: &str) -> &'a Sheet {
+    let place = TABLES.iter().position(|table| table.file == file).expect("a file of the tables");
+    &tables[place]
+}
+
+/// All files, or the faults of all of them; the records of table 70 last, since a program reads them.
+fn read(check: &Check) -> Result<(Vec<Sheet>, Sheet), Failure> {
+    let (links, mut tables, mut faults) = (Place::of(&check.tables), Vec::new(), Vec::new());
     for table in &TABLES {
-        match sheet::read(&check.tables.join(table.file), table.columns, Names::None) {
-            Ok(sheet) => tables.push(sheet),
-            Err(more) => faults.extend(more),
+        let sheet = match (table.file, &links) {
+            (LINKS, Ok(Place::Csv)) => sheet::read(&check.tables.join(LINKS), table.columns, Names::None),
+            (LINKS, Ok(_)) => Ok(Sheet::of_cells(table.columns, Vec::new())),
+            (LINKS, Err(what)) => {
+                Err(vec![Fault::of_file(&check.tables.display().to_string(), what.clone())])
+            }
+            (file, _) => sheet::read(&check.tables.join(file), table.columns, Names::None),
+        };
+        sheet.map_or_else(|more| faults.extend(more), |sheet| tables.push(sheet));
+    }
+    let entries = sheet::read(&check.entries, ENTRY, Names::Allowed).map_err(|more| faults.extend(more));
+    let (Ok(entries), [], Ok(links)) = (entries, &faults[..], links) else {
+        return Err(Failure::Refused(faults));
+    };
+    match links {
+        Place::Csv => {}
+        Place::Records(file) => {
+            let columns = tables.pop().expect("table 70 is the last").columns();
+            tables.push(Sheet::of_cells(columns, cells(check, &file)?));
+        }
+        Place::Nowhere => eprintln!(
+            "dose: {} has neither {LINKS} nor {LINK_RECORDS}: table 70 is empty, and no HPK brings a PRK or a GPK",
+            check.tables.display()
+        ),
+    }
+    Ok((tables, entries))
+}
+
+/// Where table 70 stands.
+enum Place {
+    Csv,
+    Records(PathBuf),
+    Nowhere,
+}
+
+impl Place {
+    fn of(folder: &Path) -> Result<Place, String> {
+        let records = folder.join(LINK_RECORDS);
+        match (folder.join(LINKS).exists(), records.exists()) {
+            (true, true) => Err(format!("{LINKS} and {LINK_RECORDS} both stand here: leave out one of them")),
+            (true, false) => Ok(Place::Csv),
+            (false, true) => Ok(Place::Records(records)),
+            (false, false) => Ok(Place::Nowhere),
         }
     }
-    match sheet::read(&check.entries, ENTRY, Names::Allowed) {
-        Ok(entries) if faults.is_empty() => return Ok((tables, entries)),
-        Ok(_) => {}
-        Err(more) => faults.extend(more),
+}
+
+/// The cells of table 70 from its records.
+fn cells(check: &Check, file: &Path) -> Result<Vec<u64>, Failure> {
+    let bytes = records::bytes(file).map_err(|fault| Failure::Refused(vec![fault]))?;
+    let records =
+        records::read(&bytes, check.calls_program.as_deref(), "--calls-program").map_err(Failure::Program)?;
+    let name = file.display().to_string();
+    let (cells, withdrawn) = records::cells(&name, records).map_err(Failure::Refused)?;
+    if withdrawn > 0 {
+        eprintln!("dose: {name}: left out {withdrawn} withdrawn records (mutation digit 1)");
     }
-    Err(faults)
+    Ok(cells)
 }
 
 /// An entry with one count goes to `answers`. One with a range goes to `counts`, even a range of one count: P3 gives
 /// ranges a default for months of their own.
-fn parts<'a>(check: &'a Check, tables: &'a Tables, entries: &Sheet) -> Result<Vec<Part<'a>>, Fault> {
-    let (ranged, plain): (Vec<Due>, Vec<Due>) = due::of(entries).into_iter().partition(Due::is_of_range);
+fn parts<'a>(
+    check: &'a Check,
+    tables: &'a Tables,
+    entries: &Sheet,
+    links: &Links,
+) -> Result<Vec<Part<'a>>, Fault> {
+    let (ranged, plain): (Vec<Due>, Vec<Due>) =
+        due::of(entries, links).into_iter().partition(Due::is_of_range);
     let stream = Stream::of_answers(tables, entries)?;
     let mut parts = vec![Part { proved: &ANSWERS, given: check.program.as_deref(), stream, due: plain }];
     if !ranged.is_empty() {
@@ -69,6 +131,5 @@ fn print(check: &Check, tables: &[Sheet], entries: &Sheet, lines: &[Line]) -> io
     if check.is_csv {
         return report::csv(&mut out, entries, lines);
     }
-    let place = TABLES.iter().position(|table| table.file == LIMITS).expect("649 is one of the tables");
-    report::readable(&mut out, entries, lines, &Limits::new(&tables[place]))
+    report::readable(&mut out, entries, lines, &Limits::new(table(tables, LIMITS)))
 }

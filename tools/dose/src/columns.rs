@@ -56,12 +56,12 @@ const fn on_off(name: &'static str) -> Column {
     Column { name, content: Content::OnOffOrBlank }
 }
 
-/// The tables in the order in which a case has them.
-pub const TABLES: [Table; 6] = [
-    Table { file: "640.csv", columns: &[number("GPKODE"), number("GPDGST"), number("GPRISC")] },
+/// The tables in the order in which a case has them. The last may be absent, or be records.
+pub const TABLES: [Table; 7] = [
+    Table { file: "640.csv", columns: &[number(GPKODE), number("GPDGST"), number("GPRISC")] },
     Table {
         file: "641.csv",
-        columns: &[number("GPKODE"), number("PRKODE"), number("HPKODE"), number("GPDCOD"), number("GPDBAS")],
+        columns: &[number(GPKODE), number(PRKODE), number(HPKODE), number("GPDCOD"), number("GPDBAS")],
     },
     Table {
         file: "642.csv",
@@ -94,12 +94,23 @@ pub const TABLES: [Table; 6] = [
         columns: &[number(RULE), number(NORM_MINIMUM), number(NORM_MAXIMUM), number(ABSOLUTE_MAXIMUM)],
     },
     Table { file: "730.csv", columns: &[number("SRTCDE"), number("CODE"), wide("CDHOEV"), number("CDEENH")] },
+    Table {
+        file: LINKS,
+        columns: &[
+            number(HPKODE),
+            number(PRKODE),
+            number("HPANPR"),
+            number(GPKODE),
+            number("PRANGP"),
+            number("HPANGP"),
+        ],
+    },
 ];
 
 pub const ENTRY: &[Column] = &[
-    number("GPK"),
-    or_blank("PRK"),
-    or_blank("HPK"),
+    number(GPK),
+    or_blank(PRK),
+    or_blank(HPK),
     or_blank("age"),
     or_blank("sex"),
     or_blank("weight"),
@@ -120,8 +131,8 @@ pub const ENTRY: &[Column] = &[
     on_off(QUIET),
 ];
 
-// The fields that the front itself reads: to show the limits and the counts, and to know where a signal may be
-// suppressed.
+// The fields that the front itself reads: to show the limits, the counts and what an HPK brings, and to know where a
+// signal may be suppressed.
 pub const LIMITS: &str = "649.csv";
 pub const RULE: &str = "GPDDNR";
 pub const NORM_MINIMUM: &str = "norm minimum";
@@ -130,3 +141,13 @@ pub const ABSOLUTE_MAXIMUM: &str = "absolute maximum";
 pub const BASE_UNIT: &str = "base unit";
 pub const COUNT: &str = "count";
 pub const QUIET: &str = "quiet";
+pub const GPK: &str = "GPK";
+pub const PRK: &str = "PRK";
+pub const HPK: &str = "HPK";
+pub const GPKODE: &str = "GPKODE";
+pub const PRKODE: &str = "PRKODE";
+pub const HPKODE: &str = "HPKODE";
+
+/// Table 70, which PRK and GPK an HPK has (P5): a CSV file, or the records of Z-Index's file.
+pub const LINKS: &str = "070.csv";
+pub const LINK_RECORDS: &str = "BST070T";

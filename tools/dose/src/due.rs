@@ -2,6 +2,7 @@
 //! or of another kind is known as such.
 
 use crate::columns::QUIET;
+use crate::links::{Links, Said};
 use crate::number::ON;
 use crate::range::Range;
 use crate::sheet::Sheet;
@@ -12,6 +13,8 @@ pub struct Due {
     pub row: usize,
     /// Whether the entry says quiet on: only then may a signal be suppressed (P4).
     pub is_quiet: bool,
+    /// What table 70 says of the entry's HPK (P5).
+    pub said: Said,
     pub what: What,
 }
 
@@ -25,12 +28,12 @@ pub enum What {
 }
 
 /// In the order of the entries; the counts of a range rise.
-pub fn of(entries: &Sheet) -> Vec<Due> {
+pub fn of(entries: &Sheet, links: &Links) -> Vec<Due> {
     let mut due = Vec::with_capacity(entries.len());
     let quiet = entries.place(QUIET);
     for (row, range) in entries.ranges().iter().enumerate() {
         let is_quiet = entries.row(row)[quiet] == ON;
-        let one = |what| Due { row, is_quiet, what };
+        let one = |what| Due { row, is_quiet, said: links.of(entries, row), what };
         match *range {
             None => due.push(one(What::Answer)),
             Some(range) if range.is_refused() => due.push(one(What::Refusal(range))),

@@ -11,10 +11,12 @@ mod failure;
 mod header;
 mod kit;
 mod limits;
+mod links;
 mod number;
 mod program;
 mod progress;
 mod range;
+mod records;
 mod report;
 mod sheet;
 mod stream;
@@ -37,6 +39,7 @@ fn main() -> ExitCode {
             .map_err(|e| Failure::Program(format!("the help cannot be written: {e}"))),
         Ok(Command::Check(check)) => check::run(&check),
         Ok(Command::Units(units)) => units::run(&units),
+        Ok(Command::Products(products)) => records::run(&products),
     };
     match done {
         Ok(()) => ExitCode::SUCCESS,

@@ -18,6 +18,11 @@ pub const ANSWERS: Proved = Proved { name: "answers", option: "--program" };
 pub const COUNTS: Proved = Proved { name: "counts", option: "--counts-program" };
 pub const UNIT_LIST: Proved = Proved { name: "unit_list", option: "--program" };
 
+/// Beside `answers` it has an option of its own.
+pub const fn record_calls(option: &'static str) -> Proved {
+    Proved { name: "record_calls", option }
+}
+
 /// The program that was given, or the one that `rt check` puts into the repository around this front.
 pub fn find(proved: &Proved, given: Option<&Path>) -> Result<PathBuf, String> {
     if let Some(path) = given {

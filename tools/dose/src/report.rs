@@ -2,15 +2,20 @@
 
 use crate::answer::{Answer, NAMES};
 use crate::ask::Line;
-use crate::columns::{BASE_UNIT, COUNT, NAME};
+use crate::columns::{BASE_UNIT, COUNT, HPK, NAME};
 use crate::due::{Due, What};
 use crate::limits::Limits;
+use crate::number::BLANK;
 use crate::sheet::Sheet;
 use crate::words;
 use std::io::{self, Write};
 
+/// The columns behind the numbers, where some entry gives an HPK: what it brought (P5).
+const BROUGHT: [&str; 2] = ["PRK brought", "GPK brought"];
+
 /// One line for each entry, or for each count of its range: answer in words, text, limits, basis, category, rule,
-/// high, low. A suppressed signal is said in the words. A refused range has one line, and 131 has no other numbers.
+/// high, low. A suppressed signal is said in the words, and so is what the HPK brought, or that it differs. A refused
+/// range has one line, and 131 has no other numbers.
 pub fn readable(out: &mut dyn Write, entries: &Sheet, lines: &[Line], limits: &Limits) -> io::Result<()> {
     let base_unit = entries.place(BASE_UNIT);
     for Line { due, answer } in lines {
@@ -18,7 +23,7 @@ pub fn readable(out: &mut dyn Write, entries: &Sheet, lines: &[Line], limits: &L
         let label = entries.label(due.row);
         let said = match due.what {
             What::Refusal(_) => format!("{} {}", answer.answer, words::RANGE_REFUSED_MEANS),
-            _ => sentence(answer, &limits.sentence(answer, entries.row(due.row)[base_unit])),
+            _ => sentence(due, answer, &limits.sentence(answer, entries.row(due.row)[base_unit])),
         };
         match due.what {
             What::Answer => writeln!(out, "{line}{label}: {said}"),
@@ -29,11 +34,11 @@ pub fn readable(out: &mut dyn Write, entries: &Sheet, lines: &[Line], limits: &L
     out.flush()
 }
 
-fn sentence(answer: &Answer, limits: &str) -> String {
+fn sentence(due: &Due, answer: &Answer, limits: &str) -> String {
     format!(
         "{} {}; text {}; {limits}; basis {}; category {}; rule {}; high {}; low {}",
         answer.answer,
-        words::sentence(answer),
+        words::sentence(answer, &due.said),
         answer.text,
         answer.basis,
         answer.category,
@@ -44,17 +49,23 @@ fn sentence(answer: &Answer, limits: &str) -> String {
 }
 
 /// A header, then for each line the name or line of its entry and the nine numbers. If some entry has a range,
-/// all lines have their count between the two.
+/// all lines have their count between the two; if some entry gives an HPK, what it brought behind them.
 pub fn csv(out: &mut dyn Write, entries: &Sheet, lines: &[Line]) -> io::Result<()> {
     let has_count = entries.has_ranges();
+    let hpk = entries.place(HPK);
+    let has_hpk = entries.rows().any(|row| row[hpk] != BLANK);
     let mut header = vec![if entries.is_named { NAME } else { "line" }];
     header.extend(has_count.then_some(COUNT));
     header.extend(NAMES);
+    header.extend(BROUGHT.into_iter().filter(|_| has_hpk));
     writeln!(out, "{}", header.join(","))?;
     for Line { due, answer } in lines {
         let mut cells = vec![cell(entries.label(due.row))];
         cells.extend(has_count.then(|| count(entries, due)));
         cells.extend(answer.numbers().map(|number| number.to_string()));
+        let brought =
+            due.said.brought(answer).map(|code| code.map_or(String::new(), |code| code.to_string()));
+        cells.extend(brought.into_iter().filter(|_| has_hpk));
         writeln!(out, "{}", cells.join(","))?;
     }
     out.flush()

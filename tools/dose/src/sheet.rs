@@ -20,6 +20,13 @@ pub struct Sheet {
 }
 
 impl Sheet {
+    /// Of cells that do not stand in a CSV file; the rows are called by their numbers.
+    pub fn of_cells(columns: &'static [Column], numbers: Vec<u64>) -> Sheet {
+        let rows = numbers.len() / columns.len();
+        let labels = (1..=rows).map(|row| row.to_string()).collect();
+        Sheet { columns, numbers, labels, ranges: vec![None; rows], is_named: false }
+    }
+
     pub fn len(&self) -> usize {
         self.labels.len()
     }
@@ -68,8 +75,7 @@ pub fn read(path: &Path, columns: &'static [Column], names: Names) -> Result<She
     let lines = csv::lines(&bytes).map_err(|line| {
         vec![Fault::of_line(&file, line, "is not UTF-8 text: save the file as CSV UTF-8".to_string())]
     })?;
-    let sheet =
-        Sheet { columns, numbers: Vec::new(), labels: Vec::new(), ranges: Vec::new(), is_named: false };
+    let sheet = Sheet::of_cells(columns, Vec::new());
     let mut reader = Reader { file: &file, sheet, width: columns.len(), faults: Vec::new() };
     reader.header(lines.first().unwrap_or(&""), names);
     if reader.faults.is_empty() {

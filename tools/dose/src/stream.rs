@@ -1,5 +1,5 @@
 //! The cases that the proved programs `answers` and `counts` read: numbers of 32 bits, little-endian, CDHOEV of 64
-//! bits. A case is the six tables' lengths in bytes, the number of entries, the tables, the entries. In `counts` each
+//! bits. A case is the seven tables' lengths in bytes, the number of entries, the tables, the entries. In `counts` each
 //! entry is followed by first, last and the places of its list.
 
 use crate::columns::{Column, Content, ENTRY, TABLES};

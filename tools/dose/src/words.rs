@@ -1,28 +1,39 @@
-//! Document 01's table of answers, in words, and what document 02 adds: the refusal of a range and the suppressed
-//! signal.
+//! Document 01's table of answers, in words, and what document 02 adds: the refusal of a range, the suppressed signal,
+//! and the PRK or GPK that is not the HPK's.
 
 use crate::answer::Answer;
+use crate::links::Said;
 use std::ops::RangeInclusive;
 
 pub const COMPARED: u32 = 100;
 /// The signals of a missing frequency, which quiet may suppress (P4).
 pub const FREQUENCY_SIGNALS: RangeInclusive<u32> = 115..=117;
 
+/// What an HPK may spare (P5), and what is said of its row in table 70.
+pub const PRK_MISSING: u32 = 104;
+pub const NO_GPK: u32 = 110;
+pub const ASKS_FOR_CODE: [u32; 2] = [PRK_MISSING, NO_GPK];
+pub const SEVERAL: u32 = 123;
+pub const LINKS: u32 = 70;
+pub const OTHER_THAN_HPK: u32 = 133;
+/// The answers that stand before an HPK is looked for.
+pub const BEFORE_LINKS: [u32; 4] = [121, 122, 125, RANGE_REFUSED];
+
 /// The refusal of a whole range of counts (P2). It is no answer of a check.
 pub const RANGE_REFUSED: u32 = 131;
 pub const RANGE_REFUSED_MEANS: &str = "first count above the last, or over 16 counts";
 
-/// The meaning of an answer, if document 01 has it.
+/// The meaning of an answer, if documents 01 and 02 have it.
 pub fn of(answer: u32) -> Option<&'static str> {
     Some(match answer {
         COMPARED => "compared",
         101 => "age missing",
         102 => "sex missing",
         103 => "HPK missing",
-        104 => "PRK missing",
+        PRK_MISSING => "PRK missing",
         105 => "weight missing",
         106 => "surface missing",
-        110 => "no GPK",
+        NO_GPK => "no GPK",
         111 => "GPK not in 640",
         112 => "sex not allowed",
         113 => "no setting in 642",
@@ -35,18 +46,24 @@ pub fn of(answer: u32) -> Option<&'static str> {
         120 => "over 512 rows in the category",
         121 => "table not whole rows, or too long",
         122 => "field out of range",
-        123 => "several rows where one is needed",
+        SEVERAL => "several rows where one is needed",
         124 => "needed row absent",
         125 => "entry out of range",
         126 => "unit row absent",
         127 => "amount zero",
         128 => "amount (CDHOEV) above 9,999,999,999",
+        OTHER_THAN_HPK => "PRK or GPK is not that of the HPK",
         _ => return None,
     })
 }
 
-/// The answer in words, with the table it names and what a comparison found.
-pub fn sentence(answer: &Answer) -> String {
+/// The answer in words, with the table it names, what a comparison found, and what table 70 says of the HPK.
+pub fn sentence(answer: &Answer, said: &Said) -> String {
+    let of_hpk = said.sentence(answer).map_or(String::new(), |of_hpk| format!("; {of_hpk}"));
+    answer_alone(answer) + &of_hpk
+}
+
+fn answer_alone(answer: &Answer) -> String {
     if answer.suppressed != 0 {
         return suppression(answer.suppressed);
     }

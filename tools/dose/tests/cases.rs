@@ -4,7 +4,7 @@ mod common;
 use common::{k1_with, sample, Room, ENTRIES, TABLES};
 
 const LONGEST_CASE: usize = 4_194_304;
-const HEAD: usize = 28;
+const HEAD: usize = 32;
 const ENTRY: usize = 84;
 /// An entry of `counts`, with first, last and places.
 const RANGE: usize = 96;
@@ -15,8 +15,8 @@ fn cases(mut stream: &[u8], entry: usize) -> Vec<(usize, usize)> {
     let mut cases = Vec::new();
     while !stream.is_empty() {
         let word = |i: usize| number(stream, 4 * i);
-        let entries = word(6);
-        let length = HEAD + (0..6).map(word).sum::<usize>() + entry * entries;
+        let entries = word(7);
+        let length = HEAD + (0..7).map(word).sum::<usize>() + entry * entries;
         cases.push((length, entries));
         stream = &stream[length..];
     }
@@ -34,7 +34,7 @@ fn places_in_two_cases(heard: &[u8], count: usize, entry: usize) -> Vec<usize> {
     let lengths = [first, count - first].map(|entries| (HEAD + tables + entry * entries, entries));
     assert_eq!(cases(heard, entry), lengths);
     let second = lengths[0].0;
-    assert_eq!(heard[..24], heard[second..second + 24]);
+    assert_eq!(heard[..28], heard[second..second + 28]);
     assert_eq!(heard[HEAD..HEAD + tables], heard[second + HEAD..second + HEAD + tables]);
     let place = |i| if i < first { entry * i } else { second + entry * (i - first) };
     (0..count).map(|i| HEAD + tables + place(i)).collect()
@@ -95,14 +95,15 @@ fn tables_that_leave_room_for_one_entry_or_none() {
     room.write(ENTRIES, entries.join("\n"));
     room.fake_says(&ANSWER.repeat(2));
     write_rows(&room, "643.csv", "33784,216000,999999,2,19,70000,80000,0,999999,1", 65_535);
-    write_rows(&room, "642.csv", "1500,3,17752,0,0,33784", 65_533);
+    write_rows(&room, "642.csv", "1500,3,17752,0,0,33784", 65_532);
+    write_rows(&room, "641.csv", "103136,0,0,1,1500", 1);
     assert_eq!(room.check(&[]).status, 0);
     assert_eq!(cases(&room.heard().unwrap(), ENTRY), [(4_194_304, 1), (4_194_304, 1)]);
-    write_rows(&room, "642.csv", "1500,3,17752,0,0,33784", 65_534);
+    write_rows(&room, "070.csv", "216267,5541,1,16004,1,1", 1);
     room.refused(&[
         "the tables are too long for the program",
         "make 4194328 bytes, and a case has at most 4194304",
-        "640.csv 0, 641.csv 0, 642.csv 1572816, 643.csv 2621400, 649.csv 0, 730.csv 0",
+        "640.csv 0, 641.csv 20, 642.csv 1572768, 643.csv 2621400, 649.csv 0, 730.csv 0, 070.csv 24",
     ]);
 }
 
@@ -112,12 +113,13 @@ fn tables_that_leave_room_for_one_count_and_no_range() {
     room.fake_says(ANSWER);
     room.counts_says(ANSWER);
     write_rows(&room, "643.csv", "33784,216000,999999,2,19,70000,80000,0,999999,1", 65_535);
-    write_rows(&room, "642.csv", "1500,3,17752,0,0,33784", 65_533);
+    write_rows(&room, "642.csv", "1500,3,17752,0,0,33784", 65_532);
+    write_rows(&room, "641.csv", "103136,0,0,1,1500", 1);
     room.write(ENTRIES, k1_with(&[("K1", "2")]));
     assert_eq!(room.check(&[]).status, 0);
     room.write(ENTRIES, k1_with(&[("K1", "2"), ("K1", "2-2")]));
     room.refused(&["the tables are too long", "make 4194316 bytes, and a case has at most 4194304"]);
-    write_rows(&room, "642.csv", "1500,3,17752,0,0,33784", 65_532);
+    write_rows(&room, "642.csv", "1500,3,17752,0,0,33784", 65_531);
     assert_eq!(room.check(&[]).status, 0);
     assert_eq!(cases(&room.heard().unwrap(), ENTRY), [(4_194_280, 1)]);
     assert_eq!(cases(&room.counts_heard().unwrap(), RANGE), [(4_194_292, 1)]);

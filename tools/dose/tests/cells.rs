@@ -7,14 +7,16 @@ const BLANK: [u8; 4] = [255; 4];
 /// Places in a line of the entries.
 const COUNT: usize = 12;
 const MONTHS: usize = 20;
-/// A whole row of 730, which is empty in the sample.
+/// A whole row of 730 and of 070, which are empty in the sample.
 const UNIT_ROW: &str = "SRTCDE,CODE,CDHOEV,CDEENH\n1,216267,20000,303\n";
+const LINK_ROW: &str = "HPKODE,PRKODE,HPANPR,GPKODE,PRANGP,HPANGP\n216267,5541,1,16004,1,1\n";
 
 fn whole(file: &str) -> String {
-    if file == "730.csv" {
-        return UNIT_ROW.to_string();
+    match file {
+        "730.csv" => UNIT_ROW.to_string(),
+        "070.csv" => LINK_ROW.to_string(),
+        _ => sample(file),
     }
-    sample(file)
 }
 
 /// The file with another cell in its first row, and the field of that cell.

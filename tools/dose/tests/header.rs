@@ -21,7 +21,7 @@ fn refused(room: &Room, file: &str, header: &[String], words: &[&str]) {
 }
 
 #[test]
-fn the_names_are_document_01s() {
+fn the_names_are_the_papers() {
     let names: Vec<String> = headers().into_iter().map(|(_, names)| names.join(",")).collect();
     assert_eq!(
         names,
@@ -32,6 +32,7 @@ fn the_names_are_document_01s() {
             "GPDCAT,GPDLFM,GPDLFX,GPDFAA,GPDFEE,GPDKGM,GPDKGX,surface low,surface high,GPDDNR",
             "GPDDNR,norm minimum,norm maximum,absolute maximum",
             "SRTCDE,CODE,CDHOEV,CDEENH",
+            "HPKODE,PRKODE,HPANPR,GPKODE,PRANGP,HPANGP",
             "name,GPK,PRK,HPK,age,sex,weight,surface,care group,reason,ICPCTO,route,count,time unit,\
              lowest,highest,entered unit,base unit,SRTCDE,CODE,months",
         ]

@@ -8,8 +8,8 @@ use common::{k1_with, months, program_line, Room, ENTRIES, TABLES};
 const OFF: u32 = 0;
 /// As many as a range may have counts (P2).
 const PLACES: u32 = 16;
-/// Behind the lengths of the six tables stands the number of entries.
-const ENTRIES_AT: usize = 24;
+/// Behind the lengths of the seven tables stands the number of entries.
+const ENTRIES_AT: usize = 28;
 const COMPARED: &str = "100 0 0 1500 33784 1 0 0 0\n";
 
 #[test]

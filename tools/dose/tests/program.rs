@@ -70,7 +70,7 @@ fn a_program_that_is_not_there_or_none() {
 #[test]
 fn wrong_words_on_the_command_line() {
     let room = Room::new("wrong_words");
-    let lines: [&[&str]; 10] = [
+    let lines: [&[&str]; 15] = [
         &[],
         &["chek"],
         &["check"],
@@ -81,6 +81,11 @@ fn wrong_words_on_the_command_line() {
         &["check", "a", "b", "--counts-program"],
         &["units", "a", "--csv"],
         &["units", "a", "--counts-program", "b"],
+        &["check", "a", "b", "--calls-program"],
+        &["units", "a", "--calls-program", "b"],
+        &["products"],
+        &["products", "a", "--csv"],
+        &["products", "a", "b"],
     ];
     for words in lines {
         let ran = ran(room.dose().args(words));

@@ -1,8 +1,8 @@
-//! The samples through the proved programs, against the papers. DOSE_ANSWERS, DOSE_COUNTS and DOSE_UNIT_LIST name the
-//! programs: `DOSE_ANSWERS=... DOSE_COUNTS=... DOSE_UNIT_LIST=... cargo test -- --include-ignored`.
+//! The samples through the proved programs, against the papers. DOSE_ANSWERS, DOSE_COUNTS, DOSE_UNIT_LIST and
+//! DOSE_RECORD_CALLS name the programs, which `cargo test -- --include-ignored` then asks.
 
 mod common;
-use common::{months, quiet, ran, ranges, sample, SAMPLE};
+use common::{hpk, months, quiet, ran, ranges, sample, Room, ENTRIES, SAMPLE};
 use std::process::Command;
 
 /// The front with these words and the programs that the variables name, each by its option.
@@ -23,6 +23,8 @@ const TABLES: &str = concat!(env!("CARGO_MANIFEST_DIR"), "/sample/proof-table");
 const ANSWERS: (&str, &str) = ("--program", "DOSE_ANSWERS");
 const COUNTS: (&str, &str) = ("--counts-program", "DOSE_COUNTS");
 const UNIT_LIST: (&str, &str) = ("--program", "DOSE_UNIT_LIST");
+const RECORD_CALLS: (&str, &str) = ("--program", "DOSE_RECORD_CALLS");
+const RECORDS: (&str, &str) = ("--calls-program", "DOSE_RECORD_CALLS");
 
 #[test]
 #[ignore = "needs the proved program: set DOSE_ANSWERS"]
@@ -65,4 +67,35 @@ fn quiet_on_a_missing_frequency() {
 fn document_004s_rows() {
     let expected = std::fs::read_to_string(format!("{SAMPLE}/units-004/expected.txt")).unwrap();
     assert_eq!(said(&["units", &format!("{SAMPLE}/units-004/730.txt")], &[UNIT_LIST]), expected);
+}
+
+#[test]
+#[ignore = "needs the proved programs: set DOSE_ANSWERS and DOSE_COUNTS"]
+fn the_hpk_brings_its_prk() {
+    let tables = format!("{SAMPLE}/hpk");
+    let entries = format!("{tables}/entries.csv");
+    let programs = [ANSWERS, COUNTS];
+    assert_eq!(said(&["check", &tables, &entries], &programs), hpk("expected.txt"));
+    assert_eq!(said(&["check", &tables, &entries, "--csv"], &programs), hpk("expected.csv"));
+}
+
+/// 004's rows as records; the HPK that 070.csv has besides, and twice, then has no row.
+#[test]
+#[ignore = "needs the proved programs: set DOSE_ANSWERS, DOSE_COUNTS and DOSE_RECORD_CALLS"]
+fn the_hpk_brings_its_prk_by_records() {
+    let room = Room::new("the_hpk_by_records");
+    common::TABLES.iter().chain([&ENTRIES]).for_each(|file| room.write(file, hpk(file)));
+    room.remove("070.csv");
+    room.write("BST070T", std::fs::read(format!("{SAMPLE}/products-004/070.txt")).unwrap());
+    let (tables, entries) =
+        (room.folder.display().to_string(), room.folder.join(ENTRIES).display().to_string());
+    let said = said(&["check", &tables, &entries, "--csv"], &[ANSWERS, COUNTS, RECORDS]);
+    assert_eq!(said, hpk("expected.csv").replace("HPK 7000001,2,123,0,70,", "HPK 7000001,2,110,0,0,"));
+}
+
+#[test]
+#[ignore = "needs the proved program: set DOSE_RECORD_CALLS"]
+fn document_004s_products() {
+    let expected = std::fs::read_to_string(format!("{SAMPLE}/products-004/expected.txt")).unwrap();
+    assert_eq!(said(&["products", &format!("{SAMPLE}/products-004/070.txt")], &[RECORD_CALLS]), expected);
 }

@@ -64,7 +64,9 @@ fn every_answer() {
 #[test]
 fn no_other_answer() {
     let room = one_entry("no_other_answer");
-    for number in (0..300).filter(|number| MEANINGS.iter().all(|(answer, _)| answer != number)) {
+    // 133 is of an entry that gives an HPK (tests/hpk.rs).
+    let is_other = |number: &u32| *number != 133 && MEANINGS.iter().all(|(answer, _)| answer != number);
+    for number in (0..300).filter(is_other) {
         room.fake_says(&format!("{number} 0 0 0 0 0 0 0 0\n"));
         let ran = room.check(&[]);
         assert_eq!((ran.status, ran.said.as_str()), (1, ""), "{number}");
@@ -75,7 +77,7 @@ fn no_other_answer() {
 #[test]
 fn the_table_of_a_refusal() {
     let room = one_entry("the_table_of_a_refusal");
-    for table in [640, 641, 642, 643, 649, 730] {
+    for table in [640, 641, 642, 643, 649, 730, 70] {
         let line = said(&room, &format!("122 0 {table} 0 0 0 0 0 0"));
         assert!(line.starts_with(&format!("K1: 122 field out of range (table {table}); text 0;")), "{line}");
     }

@@ -1,9 +1,10 @@
-//! The large case: six tables of 20,000 rows, in which every entry goes through all twelve steps to 100.
+//! The large case: six tables of 20,000 rows, in which every entry goes through all twelve steps to 100. Table 70 is
+//! empty, or has as many.
 
 use cases::generate::case::{push_numbers, Case, Numbers};
 use cases::random::Random;
-use second::check::entry::{BLANK, CARE, MONTHS_ON, QUIET};
-use second::check::Table::{T640, T641, T642, T643, T649, T730};
+use second::check::entry::{BLANK, CARE, GPK, HPK, MONTHS_ON, PRK};
+use second::check::Table::{T640, T641, T642, T643, T649, T70, T730};
 
 const ROWS: u64 = 20_000;
 /// Each has four rows in 641, 642 and 643: one that its entry takes, and others that the entry has to pass over.
@@ -25,12 +26,35 @@ pub fn refused(mut case: Case) -> Case {
     case
 }
 
-/// The case as it was before entries had a quiet setting (P4).
-pub fn bytes_before_p4(case: &Case) -> Vec<u8> {
-    let mut bytes = vec![];
-    case.write_front(&mut bytes);
-    case.entries.iter().for_each(|entry| push_numbers(&entry[..QUIET], &mut bytes));
+/// The case for a version that knows so many fields of an entry and so many tables: the first of them.
+pub fn bytes_for(case: &Case, fields: usize, tables: usize) -> Vec<u8> {
+    let (mut bytes, tables) = (vec![], &case.tables[..tables]);
+    let lengths: Vec<u32> = tables.iter().map(|rows| rows.length() as u32).collect();
+    push_numbers(&lengths, &mut bytes);
+    push_numbers(&[case.entries.len() as u32], &mut bytes);
+    tables.iter().for_each(|rows| rows.write(&mut bytes));
+    case.entries.iter().for_each(|entry| push_numbers(&entry[..fields], &mut bytes));
     bytes
+}
+
+/// HPKs of a product, each of another PRK.
+const HPKS: u64 = ROWS / PRODUCTS;
+
+/// The same entries and answers, where PRK and GPK are filled by an HPK that has its row among 20,000 (P5). The rows
+/// are in the order of their HPKs, or in no order, as all others are.
+pub fn by_hpk(order: &str, entries: u32) -> Case {
+    let mut case = sorted(entries);
+    for n in 1..=PRODUCTS {
+        (1..=HPKS).for_each(|prk| case.push(T70, &[HPKS * n + prk, prk, 1, n, 1, 1]));
+    }
+    for entry in &mut case.entries {
+        entry[HPK] = HPKS as u32 * entry[GPK] + entry[PRK];
+        (entry[PRK], entry[GPK]) = (BLANK, 0);
+    }
+    if order == "spread" {
+        case.shuffle(&mut Random::new(SEED));
+    }
+    case
 }
 
 /// The same rows in no order, so that the rows of a key stand far apart.

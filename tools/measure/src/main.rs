@@ -13,10 +13,12 @@ use std::process::ExitCode;
 use std::time::Instant;
 
 const HELP: &str = "measure case sorted|spread ENTRIES   the large case on standard output
-measure case sorted|spread ENTRIES FIELDS
-                                     the same with quiet on, where an entry has 21 fields; or as it was with 20
-measure refused sorted|spread ENTRIES FIELDS
+measure case sorted|spread ENTRIES FIELDS TABLES
+                                     the same for a version whose entries have so many fields, with 21 quiet on,
+                                     and which has so many tables: 20 fields before P4, six tables before P5
+measure refused sorted|spread ENTRIES FIELDS TABLES
                                      the same with entries that are all out of range (125)
+measure hpk sorted|spread ENTRIES    the same with quiet on, PRK and GPK filled by an HPK of a table 70 of 20,000 rows
 measure range sorted|spread          the large tables and one entry with the counts 1 to 16, for counts
 measure each sorted|spread           the same counts as the entries of one case, for answers
 measure single sorted|spread COUNT   one of them as the only entry of a case
@@ -32,8 +34,11 @@ fn main() -> ExitCode {
     let number = |word: &str| word.parse().unwrap_or(1);
     match words[..] {
         ["case", order, entries] => put(&large(order, number(entries)).bytes()),
-        ["case", order, entries, fields] => put(&of_fields(large(order, number(entries)), fields)),
-        ["refused", order, entries, fields] => put(&of_fields(large::refused(large(order, number(entries))), fields)),
+        ["case", order, entries, fields, tables] => put(&for_version(large(order, number(entries)), fields, tables)),
+        ["refused", order, entries, fields, tables] => {
+            put(&for_version(large::refused(large(order, number(entries))), fields, tables))
+        }
+        ["hpk", order, entries] => put(&quiet::on(large::by_hpk(order, number(entries))).bytes()),
         ["quiet", order, entries, setting] => put(&quiet::category(order, number(entries), setting).bytes()),
         ["range", order] => put(&counts::range(large(order, SOME)).bytes()),
         ["each", order] => put(&counts::each(large(order, SOME)).bytes()),
@@ -64,11 +69,13 @@ fn large(order: &str, entries: u32) -> Case {
     }
 }
 
-fn of_fields(case: Case, fields: &str) -> Vec<u8> {
-    match fields {
-        "20" => large::bytes_before_p4(&case),
-        "21" => quiet::on(case).bytes(),
-        _ => panic!("{fields}: 20 or 21 fields"),
+fn for_version(case: Case, fields: &str, tables: &str) -> Vec<u8> {
+    match (fields, tables) {
+        ("20" | "21", "6" | "7") => {
+            let number = |word: &str| word.parse().expect("a number");
+            large::bytes_for(&quiet::on(case), number(fields), number(tables))
+        }
+        _ => panic!("{fields} fields and {tables} tables: 20 or 21, 6 or 7"),
     }
 }
 

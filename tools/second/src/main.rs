@@ -5,12 +5,12 @@ use second::stream::{answers::ANSWERS, counts::COUNTS, run, Program};
 use std::io::{self, BufReader, BufWriter, Read, Write};
 use std::process::ExitCode;
 
-const HELP: &str = "second: the dose check and file 730, written from the papers alone
+const HELP: &str = "second: the dose check and files 730 and 070, written from the papers alone
 
   second answers    cases on standard input, one line of nine numbers per entry
   second counts     cases whose entries have a range of counts, one line of nine numbers per count, or 131 or 132
   second units      the unit list of the records on standard input
-  second calls      the calls of file 730 on standard input, one line for each
+  second calls      the calls of files 730 and 070 on standard input, one line for each
 ";
 
 fn main() -> ExitCode {

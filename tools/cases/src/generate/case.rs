@@ -1,20 +1,22 @@
-//! A case under construction: six tables of numbers, odd bytes behind them, and entries.
+//! A case under construction: seven tables of numbers, odd bytes behind them, and entries.
 
 use crate::random::Random;
 use second::check::cells::cell;
 use second::check::entry::{FIELDS, QUIET};
 use second::check::fields::CDHOEV;
-use second::check::Table;
+use second::check::{Table, TABLES};
 use second::stream::{numbers, parts, Header, ENTRY, HEADER};
 
 pub type Numbers = [u32; FIELDS];
 
 /// The fields that entries were made of before P4: quiet is put behind them.
 pub const MADE_FIELDS: usize = QUIET;
+/// The tables that cases were made of before P5: table 70 is put behind them.
+pub const MADE_TABLES: [Table; 6] = [Table::T640, Table::T641, Table::T642, Table::T643, Table::T649, Table::T730];
 
 #[derive(Clone)]
 pub struct Case {
-    pub tables: [Rows; 6],
+    pub tables: [Rows; TABLES],
     pub entries: Vec<Numbers>,
 }
 
@@ -67,7 +69,8 @@ impl Rows {
         self.count() * self.table.row_bytes() + self.tail.len()
     }
 
-    fn bytes(&self, out: &mut Vec<u8>) {
+    /// As they stand in the stream.
+    pub fn write(&self, out: &mut Vec<u8>) {
         for row in self.cells.chunks_exact(self.width()) {
             for (place, cell) in row.iter().enumerate() {
                 if self.table == Table::T730 && place == CDHOEV {
@@ -110,7 +113,7 @@ impl Case {
             out.extend((rows.length() as u32).to_le_bytes());
         }
         out.extend((self.entries.len() as u32).to_le_bytes());
-        self.tables.iter().for_each(|rows| rows.bytes(out));
+        self.tables.iter().for_each(|rows| rows.write(out));
     }
 
     pub fn bytes(&self) -> Vec<u8> {

@@ -8,6 +8,7 @@ pub mod counts;
 mod directed;
 pub mod full;
 mod heavy;
+pub mod hpk;
 pub mod joints;
 mod model;
 pub mod months;
@@ -46,6 +47,7 @@ pub fn case(seed: u64, number: u64) -> Case {
         place if FULL_CASES.contains(&place) => {
             full::add(&mut case, (place - FULL_CASES.start) as usize, &mut ordering(seed, number));
             quiet::over_full(&mut case);
+            hpk::over_full(&mut case);
         }
         place if LONG_CASES.contains(&place) => long_in_order(&mut case, &mut ordering(seed, number)),
         _ => put_in_order(&mut case, &mut ordering(seed, number)),
@@ -63,8 +65,9 @@ pub fn light_case(seed: u64, number: u64) -> Case {
 /// The cases were made for rows that fit at both ends. In half of them the high ends that the first entry lies on are
 /// raised, so that it is found as before; in the others it lies on an end that does not count. A twelfth get rows that
 /// meet besides, and a twelfth rows of time units that stand beside each other. They were made without a quiet setting,
-/// so that each entry gets one; and a quarter get rows per day for entries whose frequency is missing. K1 to K15 and long
-/// tables, which may be full, are left alone.
+/// so that each entry gets one; and a quarter get rows per day for entries whose frequency is missing. They were made
+/// without table 70: it stays empty in almost half of them, and half get rows for their entries; those with a full
+/// category get one row, later. K1 to K15 and long tables, which may be full, are left alone.
 fn fitted(mut case: Case, seed: u64, number: u64) -> Case {
     let r = &mut Random::of_case(seed ^ 0x6669_7473, number);
     if number % ROUND <= *LONG_CASES.end() {
@@ -88,6 +91,13 @@ fn fitted(mut case: Case, seed: u64, number: u64) -> Case {
             case = Case::empty();
         }
         quiet::add(&mut case, r);
+    }
+    let r = &mut Random::of_case(seed ^ 0x6870_6b73, number);
+    match r.below(100) {
+        _ if FULL_CASES.contains(&(number % ROUND)) => {}
+        0..45 => {}
+        45..50 => hpk::others(&mut case, r),
+        _ => hpk::add(&mut case, r),
     }
     case
 }

@@ -2,7 +2,7 @@
 
 use super::case::Numbers;
 use super::counts::{CountCase, Range};
-use super::proof_table::{changed, tables, with_months, with_quiet, K, QUIET_K};
+use super::proof_table::{changed, tables, with_months, with_quiet, with_table_70, HPK_K, K, QUIET_K};
 use second::check::entry::*;
 use second::check::Table;
 
@@ -23,6 +23,7 @@ const OUT_OF_RANGE: &str = "125 0 0 0 0 0 0 0 0";
 const AGE_ASKED: &str = "101 12 0 0 0 0 0 0 0";
 const OTHER_SEX: &str = "112 7 0 0 0 0 0 0 0";
 const PRK_ASKED: &str = "104 16 0 0 0 0 0 0 0";
+const ROW_DIFFERS: &str = "133 0 0 0 0 0 0 0 0";
 
 const K1_1_TO_3: [&str; 3] = [COUNT_DIFFERS, RULE_1, COUNT_DIFFERS];
 const CARE_2: [&str; 3] = [COUNT_DIFFERS_IN_CARE_2, RULE_5, COUNT_DIFFERS_IN_CARE_2];
@@ -80,6 +81,22 @@ pub const QUIET_1_TO_4: [[&str; 4]; QUIET_K.len()] = [
     [D, NO_WEIGHT, D, D],
     [SUPPRESSED_IN_CARE_2, RULE_5, SUPPRESSED_IN_CARE_2, COUNT_DIFFERS_IN_CARE_2],
     [SUPPRESSED_IN_CARE_2, RULE_5, COUNT_DIFFERS_IN_CARE_2, COUNT_DIFFERS_IN_CARE_2],
+];
+
+/// What each entry of `HPK_K` gets for 1, 2 and 3.
+pub const HPK_1_TO_3: [[&str; 3]; HPK_K.len()] = [
+    K1_1_TO_3,
+    K1_1_TO_3,
+    ["113 0 0 1601 0 0 0 0 0"; 3],
+    ["113 0 0 1601 0 0 0 0 0"; 3],
+    ["102 7 0 0 0 0 0 0 0"; 3],
+    ["113 0 0 1600 0 0 0 0 0"; 3],
+    [PRK_ASKED; 3],
+    ["110 0 0 0 0 0 0 0 0"; 3],
+    [ROW_DIFFERS; 3],
+    [ROW_DIFFERS; 3],
+    ["123 0 70 0 0 0 0 0 0"; 3],
+    ["111 16 0 0 0 0 0 0 0"; 3],
 ];
 
 const NO_DOSE: &[(usize, u32)] = &[(LOWEST, 0)];
@@ -162,6 +179,15 @@ pub fn k_1_to_3_with_quiet(setting: u32) -> CountCase {
 /// The proof table with all entries of `QUIET_K`, each for 1 to 4.
 pub fn quiet_1_to_4() -> CountCase {
     with(&QUIET_K.map(|k| changed(k.1)), vec![range([1, 4, 4]); QUIET_K.len()])
+}
+
+/// The proof table and table 70 with all entries of `K`, and with those of `HPK_K`, each for 1, 2 and 3.
+pub fn k_1_to_3_with_table_70() -> CountCase {
+    CountCase { case: with_table_70(&K), ranges: vec![range([1, 3, 3]); K.len()] }
+}
+
+pub fn hpk_1_to_3() -> CountCase {
+    CountCase { case: with_table_70(&HPK_K), ranges: vec![range([1, 3, 3]); HPK_K.len()] }
 }
 
 /// The proof table with all of `RANGES`.

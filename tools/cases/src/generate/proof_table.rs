@@ -1,5 +1,5 @@
 //! Document 01's proof table, with K1 to K15 and the answers it gives, as document 02, P1, changes them. By P3 they say
-//! months on.
+//! months on. Behind them the examples of P4 and of P5.
 
 use super::case::{Case, Numbers};
 use second::check::entry::*;
@@ -106,6 +106,35 @@ pub const QUIET_K: [K; 8] = [
     ),
 ];
 
+/// P5 over the proof table: an HPK of K1's product, two of K12's, one of two rows that agree, and 004's of another.
+const ROWS_70: [[u64; 6]; 6] = [
+    [4_001, 8_001, 1, 103_136, 1, 1],
+    [4_002, 7_001, 1, 900_001, 2, 2],
+    [4_003, 7_002, 1, 900_001, 1, 1],
+    [4_004, 8_001, 1, 103_136, 1, 1],
+    [4_004, 8_001, 1, 103_136, 1, 1],
+    [216_267, 5_541, 1, 16_004, 1, 1],
+];
+const WOMAN: (usize, u32) = (SEX, 2);
+const K12: (usize, u32) = (GPK, 900_001);
+const DIFFERS: [u32; NUMBERS] = [133, 0, 0, 0, 0, 0, 0, 0, 0];
+
+/// K1 with an HPK, over the proof table and `ROWS_70`.
+pub const HPK_K: [K; 12] = [
+    ("4001 brings the GPK", &[(HPK, 4_001), (GPK, 0)], [100, 0, 0, 1500, 33_784, 1, 0, 0, 0]),
+    ("4001, the GPK is given", &[(HPK, 4_001)], [100, 0, 0, 1500, 33_784, 1, 0, 0, 0]),
+    ("4002 brings the PRK", &[(HPK, 4_002), K12, WOMAN], [113, 0, 0, 1601, 0, 0, 0, 0, 0]),
+    ("4002 brings both", &[(HPK, 4_002), (GPK, 0), WOMAN], [113, 0, 0, 1601, 0, 0, 0, 0, 0]),
+    ("4002, sex blank", &[(HPK, 4_002), (GPK, 0)], [102, 7, 0, 0, 0, 0, 0, 0, 0]),
+    ("4003 brings a PRK without rows", &[(HPK, 4_003), K12, WOMAN], [113, 0, 0, 1600, 0, 0, 0, 0, 0]),
+    ("4005 has no row", &[(HPK, 4_005), K12, WOMAN], [104, 16, 0, 0, 0, 0, 0, 0, 0]),
+    ("4005 has no row, GPK 0", &[(HPK, 4_005), (GPK, 0)], [110, 0, 0, 0, 0, 0, 0, 0, 0]),
+    ("4002 with PRK 7002", &[(HPK, 4_002), (PRK, 7_002), K12, WOMAN], DIFFERS),
+    ("4002 with K1's GPK", &[(HPK, 4_002)], DIFFERS),
+    ("4004 has two rows", &[(HPK, 4_004)], [123, 0, 70, 0, 0, 0, 0, 0, 0]),
+    ("216267 brings a GPK that is not in 640", &[(HPK, 216_267), (GPK, 0)], [111, 16, 0, 0, 0, 0, 0, 0, 0]),
+];
+
 /// Those that were there before P1: what was stored then has no others.
 pub const BEFORE_P1: usize = 22;
 
@@ -134,6 +163,13 @@ pub fn with_months(setting: u32) -> Case {
 pub fn with_quiet(setting: u32) -> Case {
     let mut case = k_case();
     case.entries.iter_mut().for_each(|entry| entry[QUIET] = setting);
+    case
+}
+
+/// Over the proof table and `ROWS_70`: the answers of K1 to K15, which give no HPK, stay.
+pub fn with_table_70(ks: &[K]) -> Case {
+    let mut case = with(ks);
+    ROWS_70.iter().for_each(|row| case.push(Table::T70, row));
     case
 }
 

@@ -36,7 +36,7 @@ impl Programs<'_> {
 }
 
 /// Lines that were equal: one for each entry, one for each count of a range or its refusal, one for each record of the
-/// unit files, one for each call of file 730.
+/// unit files, one for each call of files 730 and 070.
 #[derive(Default)]
 pub struct Equal {
     pub entries: u64,

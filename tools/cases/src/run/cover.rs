@@ -2,16 +2,19 @@
 
 use super::answers_of;
 use super::exchange::{self, exchange, Exchange};
+use super::hpk::{self, brought, Brought};
 use super::lies::{lies, Lies};
 use super::quiet::{self, missing, Missing};
 use crate::generate::case::{Case, Numbers};
 use crate::generate::joints::Bounded;
 use crate::generate::months::Setting;
 use crate::generate::order::{keys, Order};
-use second::check::entry::{BASE_UNIT, CODE, ENTERED_UNIT, GPK, HIGHEST, ICPCTO, LOWEST, MAY_BE_BLANK, RANGES};
+use second::check::entry::{
+    BASE_UNIT, BLANK, CODE, ENTERED_UNIT, GPK, HIGHEST, HPK, ICPCTO, LOWEST, MAY_BE_BLANK, RANGES,
+};
 use second::check::fields::LOW_BOUNDS;
 use second::check::test::{Amount, Shape};
-use second::check::{Answer, Care, Level, Reason, Route, Side, Table, Test, Time, Unit};
+use second::check::{Answer, Care, Code, Level, Reason, Route, Side, Table, Test, Time, Unit, TABLES};
 use std::collections::BTreeMap;
 
 /// Places of the basis, the category and the rule in the answer.
@@ -79,6 +82,8 @@ pub enum Seen {
     Exchange(Exchange),
     /// The frequency is missing.
     Missing(Missing),
+    /// What came of the HPK.
+    Brought(Brought),
     /// A table that was searched, of three rows or more, in which a key has several.
     Order(Table, Order),
     /// A key looked for in a table of three rows or more.
@@ -102,7 +107,7 @@ impl Coverage {
             let exchange = Setting::of(entry).and_then(|setting| exchange(case, answer, entry, setting));
             let missing = missing(case, answer, entry).into_iter().map(Seen::Missing);
             let more = searches(answer, entry, &orders).into_iter().chain(lies).chain(exchange.map(Seen::Exchange));
-            let more = more.chain(missing);
+            let more = more.chain(missing).chain(brought(case, answer, entry).into_iter().map(Seen::Brought));
             for seen in seen(answer, entry).into_iter().chain(more) {
                 *self.counts.entry(seen).or_default() += 1;
             }
@@ -173,18 +178,20 @@ fn order(case: &Case, table: Table) -> Option<Keys> {
 pub fn searched(answer: &Answer, entry: &Numbers) -> Vec<(Table, u64)> {
     let numbers = &answer.numbers;
     let converts = entry[ENTERED_UNIT] != entry[BASE_UNIT];
+    let gpk = answer.filled.map_or(entry[GPK], |filled| filled.entry.gpk);
     let all = [
-        (Table::T640, answer.test > Test::NoGpk, entry[GPK]),
-        (Table::T641, answer.test > Test::SexDiffers, entry[GPK]),
+        (Table::T640, answer.test > Test::NoGpk, gpk),
+        (Table::T641, answer.test > Test::SexDiffers, gpk),
         (Table::T642, numbers[BASIS] > 0, numbers[BASIS]),
         (Table::T643, numbers[CATEGORY] > 0, numbers[CATEGORY]),
         (Table::T649, numbers[RULE] > 0, numbers[RULE]),
         (Table::T730, answer.test >= Test::BaseUnitAbsent && converts, entry[CODE]),
+        (Table::T70, answer.test >= Test::FillingSeveral && entry[HPK] != BLANK, entry[HPK]),
     ];
     all.into_iter().filter(|(_, searched, _)| *searched).map(|(table, _, key)| (table, key as u64)).collect()
 }
 
-fn searches(answer: &Answer, entry: &Numbers, orders: &[Option<Keys>; 6]) -> Vec<Seen> {
+fn searches(answer: &Answer, entry: &Numbers, orders: &[Option<Keys>; TABLES]) -> Vec<Seen> {
     let mut all = vec![];
     for (table, key) in searched(answer, entry) {
         let Some(of) = &orders[table as usize] else { continue };
@@ -244,6 +251,7 @@ pub fn required() -> Vec<Seen> {
     }
     all.extend(exchange::required(MONTHS_NOT_GIVEN).into_iter().map(Seen::Exchange));
     all.extend(quiet::required().into_iter().map(Seen::Missing));
+    all.extend(hpk::required().into_iter().map(Seen::Brought));
     for table in Table::ALL {
         all.extend(Order::ALL.map(|order| Seen::Order(table, order)));
         for falls in [Falls::Never, Falls::Once, Falls::Often] {
@@ -275,6 +283,8 @@ pub fn tests() -> Vec<Test> {
         }
     }
     all.extend(LOW_BOUNDS.map(|place| Range(Table::T643, place as u8, Side::Odds)));
+    all.push(FillingSeveral);
+    all.extend([Code::Prk, Code::Gpk, Code::Both].map(FillingDiffers));
     all.extend([BaseUnitAbsent, BaseUnitSeveral, EnteredUnitAbsent, EnteredUnitSeveral]);
     all.extend([Amount::Base, Amount::Entered, Amount::Both].map(AmountZero));
     all.extend([Amount::Base, Amount::Entered, Amount::Both].map(AmountAbove));

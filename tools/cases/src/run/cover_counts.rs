@@ -8,7 +8,7 @@ use crate::generate::counts::{at_count, CountCase, Range};
 use crate::generate::months::{Setting, MONTH_TWINS};
 use second::check::counts::{COUNTS_MOST, NO_RANGE, TOO_SHORT};
 use second::check::entry::{COUNT, COUNT_MOST};
-use second::check::{Answer, Test};
+use second::check::{Answer, Code, Filling, Test};
 use second::stream::counts::PLACES_MOST;
 use std::collections::BTreeMap;
 
@@ -77,6 +77,8 @@ pub enum Seen {
     Test(Test),
     /// A signal suppressed at the first place, between others, at the last.
     Suppressed(Own),
+    /// What came of the HPK, at a place.
+    Filling(Filling),
     /// Rows of the unit beside the entered one, at a place, by the months setting.
     Exchange(Exchange),
     /// Months not given, and a twin that needs them on at the first place, between others, at the last.
@@ -175,6 +177,7 @@ fn answered(case: &Case, entry: &Numbers, range: &Range) -> Vec<Seen> {
         _ => Room::More,
     }));
     all.extend(answers.iter().map(|answer| Seen::Test(answer.test)));
+    all.extend(answers.iter().filter_map(|answer| answer.filled).map(|filled| Seen::Filling(filled.filling)));
     let in_range = |count: u32| (1..=COUNT_MOST).contains(&count);
     let others_in_range = answers.iter().any(|answer| answer.numbers[0] != 125);
     all.extend((first == 0 && others_in_range).then_some(Seen::ZeroAmong));
@@ -233,6 +236,8 @@ pub fn required() -> Vec<Seen> {
     all.extend([Own::First, Own::Among, Own::Last].map(Seen::Compared));
     all.extend([Own::First, Own::Among, Own::Last].map(Seen::Suppressed));
     all.extend(tests().into_iter().map(Seen::Test));
+    all.extend([Filling::HpkBlank, Filling::NoRow, Filling::Nothing].map(Seen::Filling));
+    all.extend([Code::Prk, Code::Gpk, Code::Both].map(|code| Seen::Filling(Filling::Some(code))));
     all.extend(exchange::required(MONTHS_NOT_GIVEN).into_iter().map(Seen::Exchange));
     all.extend([Own::First, Own::Among, Own::Last].map(Seen::MonthTwin));
     all

@@ -1,7 +1,7 @@
 //! Demand 3 by brute force over another program: blanks filled, rows in another order.
 
 use super::difference::{difference, Report};
-use super::fillings::{filling, Fillable, Filled, Filling, DATA};
+use super::fillings::{filling, By, Fillable, Filled, Filling, DATA, OF_HPK};
 use super::smallest::{compared, Outcome, Piece};
 use super::{answers_of, program, show};
 use crate::generate::case::{Case, Numbers};
@@ -49,6 +49,8 @@ pub struct Judged {
     /// Those among them whose question stands in step 9 (P4).
     pub fillings_of_step_9: u64,
     pub fillings_of_other_blanks: u64,
+    /// Entries after P5's filling, where it filled something: answered as they were before it.
+    pub filled_by_hpk: u64,
     pub reordered: u64,
 }
 
@@ -125,8 +127,9 @@ fn judge<P>(filling: &Filling<P>, lines: &[String], reordered: &[String], judged
             ));
         }
         let result = match filling.filled[place] {
-            None => question_names_a_blank(&lines[place], &filling.case.entries[place], judged),
-            Some(Filled { of, datum }) => {
+            None => question_names_a_blank(&lines[place], &filling.after[place], judged),
+            Some(Filled { of, by: By::Hpk }) => judge_filled_by_hpk(&lines[of], &lines[place], judged),
+            Some(Filled { of, by: By::Datum(datum) }) => {
                 let later = places[place] > places[of];
                 let asked = [(WEIGHT, Test::QuietWeightMissing), (SURFACE, Test::QuietSurfaceMissing)];
                 judged.fillings_of_step_9 += asked.contains(&(datum, places[of])) as u64;
@@ -139,10 +142,19 @@ fn judge<P>(filling: &Filling<P>, lines: &[String], reordered: &[String], judged
     Ok(())
 }
 
+/// `line` answers the entry of `before` after P5's filling.
+fn judge_filled_by_hpk(before: &str, line: &str, judged: &mut Judged) -> Result<(), String> {
+    judged.filled_by_hpk += 1;
+    match line == before {
+        true => Ok(()),
+        false => Err("what the HPK fills changes the answer once it is given".to_string()),
+    }
+}
+
 /// `line` answers the entry of `asked` with the datum filled; whether it stands later in the order is `later`.
 fn judge_filled(asked: &str, line: &str, datum: usize, later: bool, judged: &mut Judged) -> Result<(), String> {
     let question = number_of(asked);
-    match DATA.iter().find(|(_, number)| *number == question) {
+    match DATA.iter().chain([&OF_HPK]).find(|(_, number)| *number == question) {
         Some((named, _)) if *named == datum => {
             judged.fillings_of_the_question += 1;
             if number_of(line) == question {
@@ -179,7 +191,7 @@ fn number_of(line: &str) -> u32 {
 
 fn question_names_a_blank(line: &str, entry: &Numbers, judged: &mut Judged) -> Result<(), String> {
     judged.entries += 1;
-    match DATA.iter().find(|(_, number)| *number == number_of(line)) {
+    match DATA.iter().chain([&OF_HPK]).find(|(_, number)| *number == number_of(line)) {
         Some((datum, number)) if entry[*datum] != BLANK => {
             Err(format!("{number} asks for {}, which is given", RANGES[*datum].0))
         }

@@ -90,11 +90,17 @@ fn places(whole: &[u8]) -> Vec<Edge> {
 fn sizes(whole: &[u8]) -> Vec<Edge> {
     let mut case = with(&[[1, 3, 3], [3, 1, 3]]);
     let room = CASE_MOST as usize - case.bytes().len();
-    case.case.rows(Table::T730).tail = vec![7; room];
-    let misshapen = "121 0 730 0 0 0 0 0 0\n".repeat(3) + "131\n";
-    let mut all = vec![edge("a case of 4 MiB", &[&case.bytes(), whole], &[&misshapen, ANSWERS])];
-    case.case.rows(Table::T730).tail.push(7);
-    all.push(edge("a case of 4 MiB and one byte", &[whole, &case.bytes()], &[ANSWERS, BROKEN]));
+    let mut all = vec![];
+    for table in [Table::T730, Table::T70] {
+        let number = table.number();
+        case.case.rows(table).tail = vec![7; room];
+        let misshapen = format!("121 0 {number} 0 0 0 0 0 0\n").repeat(3) + "131\n";
+        let name = format!("a case of 4 MiB, most of it {number}");
+        all.push(edge(&name, &[&case.bytes(), whole], &[&misshapen, ANSWERS]));
+        case.case.rows(table).tail.push(7);
+        all.push(edge(&format!("{name}, and one byte"), &[whole, &case.bytes()], &[ANSWERS, BROKEN]));
+        case.case.rows(table).tail.clear();
+    }
     let most = (CASE_MOST as usize - HEADER) / ENTRY_AND_RANGE;
     let entries = |count: usize| {
         let mut case = with(&vec![[3, 1, 0]; count]);
@@ -103,14 +109,14 @@ fn sizes(whole: &[u8]) -> Vec<Edge> {
     };
     all.push(edge(&format!("{most} entries"), &[&entries(most), whole], &[&"131\n".repeat(most), ANSWERS]));
     all.push(edge(&format!("{} entries", most + 1), &[whole, &entries(most + 1)], &[ANSWERS, BROKEN]));
-    for place in 0..7 {
+    for place in 0..HEADER / 4 {
         let mut header = vec![0; HEADER];
         header[4 * place..4 * place + 4].fill(255);
         all.push(edge(&format!("greatest number at place {place} of the header"), &[&header], &[BROKEN]));
     }
     // 44,739,243 entries of 96 bytes are 2^32 + 32 bytes: short where the size is reckoned in 32 bits.
     let mut header = [0; HEADER];
-    header[24..28].copy_from_slice(&44_739_243u32.to_le_bytes());
+    header[HEADER - 4..].copy_from_slice(&44_739_243u32.to_le_bytes());
     all.push(edge("entries of more than 4 GiB", &[&header, &[0; 32]], &[BROKEN]));
     all
 }

@@ -8,9 +8,11 @@ pub mod cover_counts;
 pub mod demand3;
 pub mod difference;
 pub mod edges;
+pub mod edges_calls;
 pub mod edges_counts;
 pub mod exchange;
 pub mod fillings;
+pub mod hpk;
 pub mod lies;
 pub mod program;
 pub mod quiet;
@@ -20,7 +22,8 @@ pub mod smallest;
 pub mod store;
 pub mod store_counts;
 
-use crate::generate::case::Case;
+use crate::generate::case::{Case, Numbers};
+use second::check::filling::filled;
 use second::check::{check, Answer, Entry, Lent};
 use second::stream::{parts, Header, HEADER};
 
@@ -34,7 +37,22 @@ pub fn answers_of(case: &Case) -> Vec<Answer> {
 }
 
 fn answers_of_bytes(case: &Case, bytes: &[u8]) -> Vec<Answer> {
-    let header = Header::new(bytes.first_chunk::<HEADER>().expect("a case has a header"));
-    let lent = Lent::new(parts(&header, &bytes[HEADER..]).0);
+    let lent = lent_of(bytes);
     case.entries.iter().map(|entry| check(&lent, &Entry::new(*entry))).collect()
+}
+
+fn lent_of(bytes: &[u8]) -> Lent {
+    let header = Header::new(bytes.first_chunk::<HEADER>().expect("a case has a header"));
+    Lent::new(parts(&header, &bytes[HEADER..]).0)
+}
+
+/// The entries after P5's filling, of which demand 3 speaks: as they are where a table is refused, or the filling.
+pub fn after_filling(case: &Case) -> Vec<Numbers> {
+    let lent = lent_of(&case.bytes());
+    let is_sound = lent.misshapen.is_none() && lent.out_of_range.is_none();
+    let after = |entry: &Numbers| match filled(&lent.t70, &Entry::new(*entry)) {
+        Ok(filled) if is_sound => filled.entry.numbers,
+        _ => *entry,
+    };
+    case.entries.iter().map(after).collect()
 }

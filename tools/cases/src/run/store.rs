@@ -3,17 +3,20 @@
 use super::compare::input;
 use super::smallest::unit_file::UnitFile;
 use super::{answers_of_bytes, edges};
-use crate::generate::calls::{call_case, stream as stream_of, CallCase};
-use crate::generate::case::Case;
+use crate::generate::calls::{call_case_070, made_call_case, stream as stream_of, CallCase};
+use crate::generate::case::{Case, MADE_TABLES};
 use crate::generate::joints::{self, Bounded};
 use crate::generate::order::Order;
-use crate::generate::{self, chains, full, months, proof_table, quiet, FULL_640, TOO_LONG_640};
+use crate::generate::records::{good, text_070};
+use crate::generate::{self, chains, full, hpk, months, proof_table, quiet, FULL_640, TOO_LONG_640};
 use crate::random::Random;
 use quiet::One::{LimitsAbsent, NormMinimum, Suppresses};
 use second::check::entry::{BLANK, MONTHS, MONTHS_OFF, QUIET_OFF, QUIET_ON};
 use second::check::Table;
-use second::record::calls::{calls as call_lines, Call, BYTES_MOST};
+use second::record::calls::{calls as call_lines, Call, File, Record, BYTES_MOST};
+use second::record::f070::Link;
 use second::record::list::unit_list;
+use second::record::RECORD;
 use second::stream::{BROKEN, HEADER};
 use std::{fs, io, path::Path};
 
@@ -22,18 +25,30 @@ pub const SEED: u64 = 730;
 pub const CASES: usize = 3_500;
 /// Rows of the longest table of those whose keys are looked for one by one.
 const LENGTHS: u64 = 6;
+/// The variant of `full` that has one row too many.
+const TOO_LONG_CATEGORY: usize = 2;
 /// Numbers of cases, and of cases of calls, that showed something new of SEED's first 12,000, in the coverage or by
 /// telling a wrong version that none before told.
 const CHOSEN_CASES: &str = include_str!("../../stored/cases");
 const CHOSEN_CALLS: &str = include_str!("../../stored/calls");
+const CHOSEN_CALLS_070: &str = include_str!("../../stored/calls_070");
 /// Numbers of the stored ones in which an entry gave no months setting and gets another answer for it by P3.
 const CHOSEN_MONTHS: &str = include_str!("../../stored/months");
+/// Numbers of cases with table 70 that showed something new of SEED's first 12,000 in the coverage.
+const CHOSEN_HPK: &str = include_str!("../../stored/hpk");
 /// The rest is filled up with cases no longer than this before P4, since all of them stand in the repository.
 const FILLING_BYTES: usize = 1_000;
 const UNIT_FILES: u64 = 400;
 
-/// Those of P4 behind those before it, which keep their answers.
+/// Those of P5 behind those before it, which keep their answers.
 pub fn cases() -> Vec<Case> {
+    let mut cases = cases_before_p5();
+    cases.extend(p5_cases());
+    cases
+}
+
+/// Those of P4 behind those before it, which keep their answers. All of them have an empty table 70.
+pub fn cases_before_p5() -> Vec<Case> {
     let mut cases = cases_before_p4();
     cases.extend(p4_cases());
     cases
@@ -70,9 +85,9 @@ fn first_cases() -> Vec<Case> {
     cases
 }
 
-/// Those that fill up were chosen by their length before entries had a quiet setting.
+/// Those that fill up were chosen by their length before entries had a quiet setting, and before there was table 70.
 pub(super) fn bytes_before_p4(case: &Case) -> usize {
-    case.bytes().len() - size_of::<u32>() * case.entries.len()
+    case.bytes().len() - size_of::<u32>() * (case.entries.len() + 1)
 }
 
 pub(super) fn numbers(list: &str) -> Vec<u64> {
@@ -81,11 +96,10 @@ pub(super) fn numbers(list: &str) -> Vec<u64> {
 
 /// Tables that rise and tables that fall, keys at each place of them, and full categories.
 pub fn key_cases() -> Vec<Case> {
-    // Begins as the half header does that the stream ended with, so that all of the older stream, but for its months,
-    // is the front of this one.
+    // Began as the half header did that the stream ended with, so that the older stream was the front of this one.
     let mut cases = vec![chains::empty()];
     cases.extend((1..=LENGTHS).map(chains::length));
-    for table in Table::ALL {
+    for table in MADE_TABLES {
         cases.extend((0..3).map(|several| chains::search(table, Order::Rises, several)));
         cases.extend(Order::ALL[1..].iter().map(|order| chains::search(table, *order, 1)));
     }
@@ -140,6 +154,23 @@ pub fn p4_cases() -> Vec<Case> {
     cases
 }
 
+/// The proof table with table 70, and P5's examples over it; each way by itself; table 70 refused in each way; its
+/// keys rising and falling, and each of them looked for; a category of 513 rows; the chosen cases.
+pub fn p5_cases() -> Vec<Case> {
+    let mut cases = vec![proof_table::with_table_70(&proof_table::K), proof_table::with_table_70(&proof_table::HPK_K)];
+    cases.push(hpk::each());
+    cases.extend(hpk::Bad::ALL.map(hpk::bad));
+    cases.extend(hpk::both_bad());
+    cases.extend((0..3).map(|several| chains::search(Table::T70, Order::Rises, several)));
+    cases.extend(Order::ALL[1..].iter().map(|order| chains::search(Table::T70, *order, 1)));
+    cases.extend((1..=LENGTHS).map(chains::hpk_length));
+    let mut long = full::full(TOO_LONG_CATEGORY, &mut Random::of_case(SEED, 0));
+    hpk::over_full(&mut long);
+    cases.push(long);
+    cases.extend(numbers(CHOSEN_HPK).into_iter().map(|number| hpk::made(SEED, number)));
+    cases
+}
+
 pub(super) fn write(dir: &Path, stdin: &[u8], stdout: &[u8]) -> io::Result<()> {
     fs::create_dir_all(dir)?;
     fs::write(dir.join("stdin"), stdin)?;
@@ -191,22 +222,62 @@ pub fn units(dir: &Path) -> io::Result<usize> {
     Ok(stdout.iter().filter(|c| **c == b'\n').count())
 }
 
-/// So many whole calls are stored, and a damaged one.
+/// So many whole calls of file 730 are stored, and behind them so many of file 070; then a damaged one.
 pub const CALLS: usize = 1_500;
+pub const CALLS_070: usize = 400;
 /// The rest is filled up with streams no longer than this.
 const FILLING_CALLS: usize = 600;
 
-/// The chosen calls, and others; then one of 4,097 bytes, and one more behind it.
+/// Those of file 070 behind those before P5, which stay as they were; then one of 4,097 bytes, and one more behind it.
 pub fn call_input() -> Vec<u8> {
-    let chosen = numbers(CHOSEN_CALLS);
-    let made = |number: &u64| CallCase { damaged: None, ..call_case(SEED, *number) };
-    let mut calls: Vec<Call> = chosen.iter().flat_map(|number| made(number).whole).collect();
-    let others = (0..).filter(|number| !chosen.contains(number)).map(|number| made(&number));
-    let room = CALLS - calls.len();
-    calls.extend(others.filter(|case| case.bytes().len() <= FILLING_CALLS).flat_map(|case| case.whole).take(room));
-    let longer = Call::Read(vec![b' '; BYTES_MOST as usize + 1]);
+    let mut calls = calls_before_p5();
     let last = calls[0].clone();
+    calls.extend(p5_calls());
+    let longer = Call::Read(File::F730, vec![b' '; BYTES_MOST as usize + 1]);
     [stream_of(&calls), stream_of(&[longer, last])].concat()
+}
+
+/// The chosen calls of file 730, and others.
+pub fn calls_before_p5() -> Vec<Call> {
+    filled_up(vec![], numbers(CHOSEN_CALLS), made_call_case, CALLS)
+}
+
+/// Document 004's rows, read and written; one of them spoilt; the chosen calls of file 070, and others.
+pub fn p5_calls() -> Vec<Call> {
+    let mut first = vec![];
+    for (mutation, row) in [0, 1, 2, 3, 0].into_iter().zip(hpk::ROWS_004) {
+        first.push(Call::Read(File::F070, text_070(mutation, row).into_bytes()));
+        let record = Record::Link(Link { mutation: mutation as u32, numbers: row.map(|number| number as u32) });
+        first.push(Call::Write { record, buffer: vec![b'x'; RECORD + 2], place: 1 });
+    }
+    first.extend(spoilt(text_070(0, hpk::ROWS_004[0]).into_bytes()));
+    filled_up(first, numbers(CHOSEN_CALLS_070), call_case_070, CALLS_070)
+}
+
+/// A record of 070 with another character at each place; with 730's number in front; and it and one of 730 read as
+/// those of the other file.
+fn spoilt(record: Vec<u8>) -> Vec<Call> {
+    let at_place = |place: usize| {
+        let mut record = record.clone();
+        record[place] = b'x';
+        Call::Read(File::F070, record)
+    };
+    let mut calls: Vec<Call> = (0..RECORD).map(at_place).collect();
+    let of_730 = good(&mut Random::of_case(SEED, 0), File::F730).to_vec();
+    calls.push(Call::Read(File::F070, [&of_730[..4], &record[4..]].concat()));
+    calls.extend([Call::Read(File::F070, of_730), Call::Read(File::F730, record)]);
+    calls
+}
+
+/// Behind the first calls those of the chosen cases, and others, so many in all.
+fn filled_up(first: Vec<Call>, chosen: Vec<u64>, made: fn(u64, u64) -> CallCase, count: usize) -> Vec<Call> {
+    let made = |number: &u64| CallCase { damaged: None, ..made(SEED, *number) };
+    let mut calls = first;
+    calls.extend(chosen.iter().flat_map(|number| made(number).whole));
+    let others = (0..).filter(|number| !chosen.contains(number)).map(|number| made(&number));
+    let room = count - calls.len();
+    calls.extend(others.filter(|case| case.bytes().len() <= FILLING_CALLS).flat_map(|case| case.whole).take(room));
+    calls
 }
 
 pub fn calls(dir: &Path) -> io::Result<usize> {

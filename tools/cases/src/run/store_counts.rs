@@ -3,7 +3,7 @@
 use super::smallest::Piece;
 use super::store::{bytes_before_p4, numbers, write, SEED};
 use crate::generate::counts::{made_count_case, CountCase, Range};
-use crate::generate::{full, months, proof_ranges, quiet};
+use crate::generate::{full, hpk, months, proof_ranges, quiet};
 use crate::random::Random;
 use second::check::entry::{BLANK, MONTHS_OFF, QUIET_OFF, QUIET_ON};
 use second::stream::counts::PLACES_MOST;
@@ -18,8 +18,15 @@ pub const CASES: usize = 230;
 const FILLING_RANGES: usize = 5;
 const FILLING_BYTES: usize = 2_000;
 
-/// Those of P4 behind those before it, which keep their answers.
+/// Those of P5 behind those before it, which keep their answers.
 pub fn cases() -> Vec<CountCase> {
+    let mut cases = cases_before_p5();
+    cases.extend(p5_cases());
+    cases
+}
+
+/// Those of P4 behind those before it, which keep their answers. All of them have an empty table 70.
+pub fn cases_before_p5() -> Vec<CountCase> {
     let mut cases = cases_before_p4();
     cases.extend(p4_cases());
     cases
@@ -66,6 +73,14 @@ pub fn p3_cases() -> Vec<CountCase> {
 pub fn p4_cases() -> Vec<CountCase> {
     let mut cases = [QUIET_OFF, QUIET_ON].map(proof_ranges::k_1_to_3_with_quiet).to_vec();
     cases.extend([proof_ranges::quiet_1_to_4(), quiet::ranges()]);
+    cases
+}
+
+/// The proof table with table 70 for 1, 2 and 3, with P5's examples; what is asked for a range; table 70 refused in
+/// each way.
+pub fn p5_cases() -> Vec<CountCase> {
+    let mut cases = vec![proof_ranges::k_1_to_3_with_table_70(), proof_ranges::hpk_1_to_3(), hpk::ranges()];
+    cases.extend(hpk::Bad::ALL.map(hpk::bad_ranges));
     cases
 }
 

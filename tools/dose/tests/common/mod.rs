@@ -7,12 +7,14 @@ use std::fs;
 use std::path::{Path, PathBuf};
 use std::process::{Command, Output};
 
-pub const TABLES: [&str; 6] = ["640.csv", "641.csv", "642.csv", "643.csv", "649.csv", "730.csv"];
+pub const TABLES: [&str; 7] = ["640.csv", "641.csv", "642.csv", "643.csv", "649.csv", "730.csv", "070.csv"];
 pub const ENTRIES: &str = "entries.csv";
 pub const SAMPLE: &str = concat!(env!("CARGO_MANIFEST_DIR"), "/sample");
 pub const FAKE: &str = concat!(env!("CARGO_MANIFEST_DIR"), "/tests/fake.sh");
 /// Stands in for the program `counts`.
 pub const FAKE_COUNTS: &str = concat!(env!("CARGO_MANIFEST_DIR"), "/tests/fake_counts.sh");
+/// Stands in for the program `record_calls`.
+pub const FAKE_CALLS: &str = concat!(env!("CARGO_MANIFEST_DIR"), "/tests/fake_calls.sh");
 
 /// A copy of the proof table with its entries, to be changed by a test.
 pub struct Room {
@@ -36,6 +38,7 @@ impl Room {
         }
         room.fake_says(&paper_lines());
         room.counts_says("");
+        room.calls_says("");
         room
     }
 
@@ -51,9 +54,17 @@ impl Room {
         self.write("counts_says", lines);
     }
 
+    pub fn calls_says(&self, lines: &str) {
+        self.write("calls_says", lines);
+    }
+
+    pub fn remove(&self, file: &str) {
+        fs::remove_file(self.folder.join(file)).unwrap();
+    }
+
     /// `dose check` over the room's files.
     pub fn check(&self, more: &[&str]) -> Ran {
-        let programs = ["--program", FAKE, "--counts-program", FAKE_COUNTS];
+        let programs = ["--program", FAKE, "--counts-program", FAKE_COUNTS, "--calls-program", FAKE_CALLS];
         ran(self.check_without_programs().args(programs).args(more))
     }
 
@@ -67,15 +78,19 @@ impl Room {
         ran(self.dose().arg("units").arg(self.folder.join(file)).args(["--program", FAKE]))
     }
 
+    pub fn products(&self, file: &str) -> Ran {
+        ran(self.dose().arg("products").arg(self.folder.join(file)).args(["--program", FAKE_CALLS]))
+    }
+
     /// The front, with the fake programs' orders; what they heard before is forgotten.
     pub fn dose(&self) -> Command {
         let mut command = Command::new(env!("CARGO_BIN_EXE_dose"));
-        for (variable, file) in [("FAKE_HEARD", "heard"), ("FAKE_COUNTS_HEARD", "counts_heard")] {
-            let _ = fs::remove_file(self.folder.join(file));
-            command.env(variable, self.folder.join(file));
+        for (of, file) in [("FAKE", ""), ("FAKE_COUNTS", "counts_"), ("FAKE_CALLS", "calls_")] {
+            let heard = self.folder.join(format!("{file}heard"));
+            let _ = fs::remove_file(&heard);
+            command.env(format!("{of}_HEARD"), heard);
+            command.env(format!("{of}_SAYS"), self.folder.join(format!("{file}says")));
         }
-        command.env("FAKE_SAYS", self.folder.join("says"));
-        command.env("FAKE_COUNTS_SAYS", self.folder.join("counts_says"));
         command
     }
 
@@ -87,6 +102,11 @@ impl Room {
     /// What the fake program `counts` heard, if it was started.
     pub fn counts_heard(&self) -> Option<Vec<u8>> {
         fs::read(self.folder.join("counts_heard")).ok()
+    }
+
+    /// What the fake program `record_calls` heard, if it was started.
+    pub fn calls_heard(&self) -> Option<Vec<u8>> {
+        fs::read(self.folder.join("calls_heard")).ok()
     }
 
     /// The check must be refused with these words, without a line printed and without a program started.
@@ -129,6 +149,11 @@ pub fn months(file: &str) -> String {
 /// A file of the sample with quiet.
 pub fn quiet(file: &str) -> String {
     fs::read_to_string(Path::new(SAMPLE).join("quiet").join(file)).unwrap()
+}
+
+/// A file of the sample with HPKs.
+pub fn hpk(file: &str) -> String {
+    fs::read_to_string(Path::new(SAMPLE).join("hpk").join(file)).unwrap()
 }
 
 /// The header of the entries, then K1 under each of these names with this count.

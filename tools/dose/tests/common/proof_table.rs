@@ -3,8 +3,8 @@
 pub const BLANK: u32 = u32::MAX;
 pub const ON: u32 = 1;
 
-/// The six tables; 730 is empty.
-pub const PROOF_TABLE: [&[u32]; 6] = [
+/// The seven tables; 730 and 70 are empty.
+pub const PROOF_TABLE: [&[u32]; 7] = [
     &[103136, 3, 0, 900001, 2, 1],
     &[103136, 0, 0, 1, 1500, 900001, 0, 0, 1, 1600, 900001, 7001, 0, 2, 1601],
     &[1500, 3, 17752, 0, 0, 33784, 1500, 2, 17752, 0, 0, 33790, 1500, 3, 5000, 0, 0, 33785],
@@ -17,10 +17,13 @@ pub const PROOF_TABLE: [&[u32]; 6] = [
     ],
     &[1, 500, 2000, 3000, 2, 0, 1500, 0, 3, 0, 1000, 1500, 4, 0, 1000, 0, 5, 0, 4000, 6000],
     &[],
+    &[],
 ];
 
 /// The places of an entry that the tests change.
 pub const GPK: usize = 0;
+pub const PRK: usize = 1;
+pub const HPK: usize = 2;
 pub const AGE: usize = 3;
 pub const SEX: usize = 4;
 pub const WEIGHT: usize = 5;
@@ -49,9 +52,21 @@ pub fn k1_but(changes: &[(usize, u32)]) -> Vec<u32> {
 
 /// The proof table with these entries, as one case.
 pub fn case(entries: &[Vec<u32>]) -> Vec<u8> {
-    let mut numbers: Vec<u32> = PROOF_TABLE.iter().map(|table| 4 * table.len() as u32).collect();
+    case_of(&PROOF_TABLE, entries)
+}
+
+/// The proof table with these rows of table 70 and these entries.
+pub fn case_with_70(links: &[[u32; 6]], entries: &[Vec<u32>]) -> Vec<u8> {
+    let links = links.concat();
+    let mut tables = PROOF_TABLE;
+    tables[6] = &links;
+    case_of(&tables, entries)
+}
+
+fn case_of(tables: &[&[u32]], entries: &[Vec<u32>]) -> Vec<u8> {
+    let mut numbers: Vec<u32> = tables.iter().map(|table| 4 * table.len() as u32).collect();
     numbers.push(entries.len() as u32);
-    numbers.extend(PROOF_TABLE.concat());
+    numbers.extend(tables.concat());
     numbers.extend(entries.concat());
     numbers.iter().flat_map(|number| number.to_le_bytes()).collect()
 }

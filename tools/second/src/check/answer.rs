@@ -1,6 +1,6 @@
 //! The nine numbers, with the test that gave them and the ways the steps went.
 
-use super::{text, Compared, Test, Ways};
+use super::{text, Compared, Filled, Test, Ways};
 
 /// Numbers of an answer.
 pub const NUMBERS: usize = 9;
@@ -13,6 +13,8 @@ pub struct Found {
     pub rule: u32,
     /// The signal that quiet suppressed.
     pub suppressed: u32,
+    /// The entry after P5's filling.
+    pub filled: Option<Filled>,
     pub ways: Ways,
 }
 
@@ -21,6 +23,8 @@ pub struct Answer {
     /// answer, text, table, basis, category, rule, high, low, suppressed
     pub numbers: [u32; NUMBERS],
     pub test: Test,
+    /// The entry after P5's filling; none where a test before it refused.
+    pub filled: Option<Filled>,
     pub ways: Ways,
     pub compared: Option<Compared>,
 }
@@ -29,16 +33,17 @@ impl Answer {
     /// Of every test but the comparison.
     pub fn refused(test: Test, found: &Found) -> Answer {
         let text = text::of_refusal(test);
-        let Found { suppressed, .. } = *found;
+        let Found { suppressed, filled, .. } = *found;
         let numbers = [test.answer(), text, test.table(), found.basis, found.category, found.rule, 0, 0, suppressed];
-        Answer { numbers, test, ways: found.ways, compared: None }
+        Answer { numbers, test, filled, ways: found.ways, compared: None }
     }
 
     pub fn compared(compared: Compared, found: &Found) -> Answer {
         let Compared { high, low, gprisc, .. } = compared;
         let text = text::of_compared(high, low, gprisc);
         let numbers = [100, text, 0, found.basis, found.category, found.rule, high, low, 0];
-        Answer { numbers, test: Test::Compared, ways: found.ways, compared: Some(compared) }
+        let (filled, ways) = (found.filled, found.ways);
+        Answer { numbers, test: Test::Compared, filled, ways, compared: Some(compared) }
     }
 
     pub fn line(&self, out: &mut Vec<u8>) {

@@ -7,6 +7,8 @@ pub const ROWS_MOST: usize = 65_535;
 pub const BOUND_MOST: u64 = 999_999;
 pub const LIMIT_MOST: u64 = 999_999_999;
 pub const CDHOEV_MOST: u64 = 999_999_999_999;
+/// How many units of one product are in another: six wide in file 070.
+pub const SIX_DIGITS: u64 = 999_999;
 
 /// A field: its name, lowest and highest permitted number.
 type Field = (&'static str, u64, u64);
@@ -44,6 +46,15 @@ const F649: [Field; 4] = [
     ("absolute maximum", 0, LIMIT_MOST),
 ];
 const F730: [Field; 4] = [("SRTCDE", 0, UNIT), ("CODE", 0, CODE), ("CDHOEV", 0, CDHOEV_MOST), ("CDEENH", 0, UNIT)];
+/// Within the widths of file 070; a code 0 is 122 (document 02, P5).
+const F70: [Field; 6] = [
+    ("HPKODE", 1, CODE),
+    ("PRKODE", 1, CODE),
+    ("HPANPR", 0, SIX_DIGITS),
+    ("GPKODE", 1, CODE),
+    ("PRANGP", 0, SIX_DIGITS),
+    ("HPANGP", 0, SIX_DIGITS),
+];
 
 /// Place of CDHOEV in 730, the one field of 64 bits, and of CDEENH behind it.
 pub const CDHOEV: usize = 2;
@@ -61,6 +72,7 @@ impl Table {
             Table::T643 => &F643,
             Table::T649 => &F649,
             Table::T730 => &F730,
+            Table::T70 => &F70,
         }
     }
 

@@ -6,6 +6,7 @@ pub mod cells;
 pub mod counts;
 pub mod entry;
 pub mod fields;
+pub mod filling;
 mod frequency;
 mod level;
 mod limits;
@@ -22,10 +23,11 @@ mod ways;
 
 pub use answer::{push_line, push_number, Answer, NUMBERS};
 pub use entry::Entry;
+pub use filling::{Filled, Filling};
 pub use limits::Compared;
 pub use quiet::{Quiet, Why};
 pub use tables::Lent;
-pub use test::{Side, Table, Test};
+pub use test::{Code, Side, Table, Test, TABLES};
 pub use unit::Ratio;
 pub use ways::{Care, Level, Reason, Route, Time, Unit, Ways};
 
@@ -43,6 +45,9 @@ pub fn check(lent: &Lent, entry: &Entry) -> Answer {
 /// Each step answers what it chose, or the test that refused.
 fn steps(lent: &Lent, entry: &Entry, found: &mut Found) -> Result<Compared, Test> {
     range(lent, entry)?;
+    let filled = filling::filled(&lent.t70, entry)?;
+    found.filled = Some(filled);
+    let entry = &filled.entry;
     let ratio = unit::ratio(&lent.t730, entry)?;
     found.ways.unit = if entry.entered_unit == entry.base_unit { Unit::Same } else { Unit::Converted };
     let product = product::product(&lent.t640, entry)?;

@@ -2,10 +2,10 @@
 
 use super::cells::{cell, rows};
 use super::fields::{LOW_BOUNDS, ROWS_MOST};
-use super::test::{Shape, Side, Table, Test};
+use super::test::{Shape, Side, Table, Test, TABLES};
 
 /// 121: the first table that is not whole rows, or too long.
-pub fn misshapen(bytes: [&[u8]; 6]) -> Option<Test> {
+pub fn misshapen(bytes: [&[u8]; TABLES]) -> Option<Test> {
     for table in Table::ALL {
         let length = bytes[table as usize].len();
         if !length.is_multiple_of(table.row_bytes()) {
@@ -19,7 +19,7 @@ pub fn misshapen(bytes: [&[u8]; 6]) -> Option<Test> {
 }
 
 /// 122: the first table with a field out of range, whether or not the row is needed.
-pub fn out_of_range(bytes: [&[u8]; 6]) -> Option<Test> {
+pub fn out_of_range(bytes: [&[u8]; TABLES]) -> Option<Test> {
     for table in Table::ALL {
         for row in rows(bytes[table as usize], table) {
             if let Some((field, side)) = row_out_of_range(table, row) {

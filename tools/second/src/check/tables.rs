@@ -3,7 +3,7 @@
 use super::cells::{cell, rows};
 use super::fields::{CDEENH, CDHOEV};
 use super::shape::{misshapen, out_of_range};
-use super::test::{Table, Test};
+use super::test::{Table, Test, TABLES};
 
 pub struct Row640 {
     pub gpkode: u32,
@@ -56,6 +56,15 @@ pub struct Row730 {
     pub cdeenh: u32,
 }
 
+pub struct Row70 {
+    pub hpkode: u32,
+    pub prkode: u32,
+    pub hpanpr: u32,
+    pub gpkode: u32,
+    pub prangp: u32,
+    pub hpangp: u32,
+}
+
 /// The tables of a case, read once, with the first 121 and the first 122 among them.
 pub struct Lent {
     pub t640: Vec<Row640>,
@@ -64,14 +73,15 @@ pub struct Lent {
     pub t643: Vec<Row643>,
     pub t649: Vec<Row649>,
     pub t730: Vec<Row730>,
+    pub t70: Vec<Row70>,
     pub misshapen: Option<Test>,
     pub out_of_range: Option<Test>,
 }
 
 impl Lent {
-    /// The six tables' bytes in the order 640, 641, 642, 643, 649, 730.
-    pub fn new(bytes: [&[u8]; 6]) -> Lent {
-        let [b640, b641, b642, b643, b649, b730] = bytes;
+    /// The tables' bytes in the order 640, 641, 642, 643, 649, 730, 70.
+    pub fn new(bytes: [&[u8]; TABLES]) -> Lent {
+        let [b640, b641, b642, b643, b649, b730, b70] = bytes;
         Lent {
             t640: rows(b640, Table::T640).map(row640).collect(),
             t641: rows(b641, Table::T641).map(row641).collect(),
@@ -79,6 +89,7 @@ impl Lent {
             t643: rows(b643, Table::T643).map(row643).collect(),
             t649: rows(b649, Table::T649).map(row649).collect(),
             t730: rows(b730, Table::T730).map(row730).collect(),
+            t70: rows(b70, Table::T70).map(row70).collect(),
             misshapen: misshapen(bytes),
             out_of_range: out_of_range(bytes),
         }
@@ -124,4 +135,9 @@ fn row649(row: &[u8]) -> Row649 {
 fn row730(row: &[u8]) -> Row730 {
     let cell = |place: usize| cell(Table::T730, row, place);
     Row730 { srtcde: cell(0) as u32, code: cell(1) as u32, cdhoev: cell(CDHOEV), cdeenh: cell(CDEENH) as u32 }
+}
+
+fn row70(row: &[u8]) -> Row70 {
+    let cell = |place: usize| cell(Table::T70, row, place) as u32;
+    Row70 { hpkode: cell(0), prkode: cell(1), hpanpr: cell(2), gpkode: cell(3), prangp: cell(4), hpangp: cell(5) }
 }

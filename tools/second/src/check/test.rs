@@ -9,14 +9,18 @@ pub enum Table {
     T643,
     T649,
     T730,
+    T70,
 }
+
+pub const TABLES: usize = 7;
 
 impl Table {
     /// The order in which 121 and 122 are tested.
-    pub const ALL: [Table; 6] = [Table::T640, Table::T641, Table::T642, Table::T643, Table::T649, Table::T730];
+    pub const ALL: [Table; TABLES] =
+        [Table::T640, Table::T641, Table::T642, Table::T643, Table::T649, Table::T730, Table::T70];
 
     pub fn number(self) -> u32 {
-        [640, 641, 642, 643, 649, 730][self as usize]
+        [640, 641, 642, 643, 649, 730, 70][self as usize]
     }
 }
 
@@ -42,12 +46,22 @@ pub enum Amount {
     Both,
 }
 
+/// Which of the entry's codes a test of P5 speaks of.
+#[derive(Clone, Copy, PartialEq, Eq, PartialOrd, Ord, Debug)]
+pub enum Code {
+    Prk,
+    Gpk,
+    Both,
+}
+
 /// The derived order is demand 3's order.
 #[derive(Clone, Copy, PartialEq, Eq, PartialOrd, Ord, Debug)]
 pub enum Test {
     Entry(u8, Side),
     Shape(Table, Shape),
     Range(Table, u8, Side),
+    FillingSeveral,
+    FillingDiffers(Code),
     BaseUnitAbsent,
     BaseUnitSeveral,
     EnteredUnitAbsent,
@@ -110,13 +124,14 @@ impl Test {
             CategoryTooLong => 120,
             Shape(..) => 121,
             Range(..) => 122,
-            BaseUnitSeveral | EnteredUnitSeveral | GpkSeveral | HpkSeveral | PrkSeveral => 123,
+            FillingSeveral | BaseUnitSeveral | EnteredUnitSeveral | GpkSeveral | HpkSeveral | PrkSeveral => 123,
             BaseLevelSeveral | SettingSeveral | RowsSeveral | LimitsSeveral => 123,
             BaseLevelAbsent | LimitsAbsent => 124,
             Entry(..) => 125,
             BaseUnitAbsent | EnteredUnitAbsent => 126,
             AmountZero(_) => 127,
             AmountAbove(_) => 128,
+            FillingDiffers(_) => 133,
         }
     }
 
@@ -125,6 +140,7 @@ impl Test {
         use Test::*;
         match self {
             Shape(table, _) | Range(table, ..) => table.number(),
+            FillingSeveral => 70,
             BaseUnitAbsent | BaseUnitSeveral | EnteredUnitAbsent | EnteredUnitSeveral => 730,
             AmountZero(_) | AmountAbove(_) => 730,
             GpkSeveral => 640,

@@ -1,19 +1,41 @@
-//! The stream of calls: readings and writings of a record, one line for each.
+//! The stream of calls: readings and writings of a record of 730 or of 070, one line for each.
 
+use super::f070::{read::read as read_070, write::write as write_070, Link};
 use super::{read::read, write::write, Unit};
 use crate::check::push_number;
 use crate::stream::BROKEN;
 
-pub const FILE_NUMBER: u32 = 730;
 pub const READ: u32 = 0;
 pub const WRITE: u32 = 1;
 /// Bytes of a text that is read, or of a buffer that is lent.
 pub const BYTES_MOST: u32 = 4_096;
 
+#[derive(Clone, Copy, PartialEq, Eq, PartialOrd, Ord, Debug)]
+pub enum File {
+    F730,
+    F070,
+}
+
+impl File {
+    pub const ALL: [File; 2] = [File::F730, File::F070];
+
+    /// As a call names it.
+    pub fn number(self) -> u32 {
+        [730, 70][self as usize]
+    }
+}
+
+/// What a record says.
+#[derive(Clone, Copy, PartialEq, Eq, Debug)]
+pub enum Record {
+    Unit(Unit),
+    Link(Link),
+}
+
 #[derive(Clone, PartialEq, Eq, Debug)]
 pub enum Call {
-    Read(Vec<u8>),
-    Write { unit: Unit, buffer: Vec<u8>, place: u64 },
+    Read(File, Vec<u8>),
+    Write { record: Record, buffer: Vec<u8>, place: u64 },
 }
 
 /// What a stream is damaged by.
@@ -43,30 +65,48 @@ pub fn calls(input: &[u8]) -> Vec<u8> {
 
 /// The next call of the stream, which is not at its end.
 pub fn take(rest: &mut &[u8]) -> Result<Call, Damage> {
-    if number(rest)? != FILE_NUMBER {
-        return Err(Damage::File);
-    }
+    let file = file(number(rest)?).ok_or(Damage::File)?;
     match number(rest)? {
         READ => {
             let length = length(rest, Damage::ReadLength)?;
-            bytes(rest, length).map(Call::Read)
+            Ok(Call::Read(file, bytes(rest, length)?))
         }
-        WRITE => taken_write(rest),
+        WRITE => taken_write(file, rest),
         _ => Err(Damage::What),
     }
 }
 
-fn taken_write(rest: &mut &[u8]) -> Result<Call, Damage> {
+fn file(number: u32) -> Option<File> {
+    File::ALL.into_iter().find(|file| file.number() == number)
+}
+
+fn taken_write(file: File, rest: &mut &[u8]) -> Result<Call, Damage> {
     let length = length(rest, Damage::WriteLength)?;
     let place = long(rest)?;
-    let unit = Unit {
+    let record = match file {
+        File::F730 => Record::Unit(unit(rest)?),
+        File::F070 => Record::Link(link(rest)?),
+    };
+    Ok(Call::Write { record, buffer: bytes(rest, length)?, place })
+}
+
+/// The amount has 64 bits.
+fn unit(rest: &mut &[u8]) -> Result<Unit, Damage> {
+    Ok(Unit {
         mutation: number(rest)?,
         srtcde: number(rest)?,
         code: number(rest)?,
         cdhoev: long(rest)?,
         cdeenh: number(rest)?,
-    };
-    Ok(Call::Write { unit, buffer: bytes(rest, length)?, place })
+    })
+}
+
+fn link(rest: &mut &[u8]) -> Result<Link, Damage> {
+    let mut link = Link { mutation: number(rest)?, ..Link::default() };
+    for part in &mut link.numbers {
+        *part = number(rest)?;
+    }
+    Ok(link)
 }
 
 fn number(rest: &mut &[u8]) -> Result<u32, Damage> {
@@ -98,13 +138,17 @@ fn bytes(rest: &mut &[u8], length: usize) -> Result<Vec<u8>, Damage> {
 
 fn line(call: Call, out: &mut Vec<u8>) {
     match call {
-        Call::Read(record) => match read(&record) {
-            Ok(unit) => read_line(&unit, out),
+        Call::Read(file, text) => match read_of(file, &text) {
+            Ok(record) => read_line(&record, out),
             Err(refusal) => push_number(out, refusal as u64),
         },
-        Call::Write { unit, mut buffer, place } => {
+        Call::Write { record, mut buffer, place } => {
             let place = usize::try_from(place).unwrap_or(usize::MAX);
-            let refusal = write(&unit, &mut buffer, place).err().unwrap_or(0);
+            let written = match record {
+                Record::Unit(unit) => write(&unit, &mut buffer, place),
+                Record::Link(link) => write_070(&link, &mut buffer, place),
+            };
+            let refusal = written.err().unwrap_or(0);
             push_number(out, refusal as u64);
             out.push(b' ');
             buffer.iter().for_each(|byte| hexadecimal(*byte, out));
@@ -113,10 +157,23 @@ fn line(call: Call, out: &mut Vec<u8>) {
     out.push(b'\n');
 }
 
+fn read_of(file: File, text: &[u8]) -> Result<Record, u32> {
+    match file {
+        File::F730 => read(text).map(Record::Unit),
+        File::F070 => read_070(text).map(Record::Link),
+    }
+}
+
 /// 0, the mutation digit, and the file's numbers in their order.
-fn read_line(unit: &Unit, out: &mut Vec<u8>) {
+fn read_line(record: &Record, out: &mut Vec<u8>) {
+    let numbers = match record {
+        Record::Unit(unit) => {
+            vec![unit.mutation as u64, unit.srtcde as u64, unit.code as u64, unit.cdhoev, unit.cdeenh as u64]
+        }
+        Record::Link(link) => [link.mutation].iter().chain(&link.numbers).map(|number| *number as u64).collect(),
+    };
     push_number(out, 0);
-    for number in [unit.mutation as u64, unit.srtcde as u64, unit.code as u64, unit.cdhoev, unit.cdeenh as u64] {
+    for number in numbers {
         out.push(b' ');
         push_number(out, number);
     }

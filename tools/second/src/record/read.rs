@@ -1,4 +1,4 @@
-//! Reading a record: 201, 202, 203, 204, tested in that order.
+//! Reading a record of 730: 201, 202, 203, 204, tested in that order.
 
 use super::*;
 

@@ -1,4 +1,4 @@
-//! Writing a record at a place in a lent buffer: 205, then 206; both write nothing.
+//! Writing a record of 730 at a place in a lent buffer: 205, then 206; both write nothing.
 
 use super::*;
 

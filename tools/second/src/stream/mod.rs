@@ -1,13 +1,13 @@
-//! The stream of cases: six table lengths in bytes, the number of entries, the tables, the entries.
+//! The stream of cases: seven table lengths in bytes, the number of entries, the tables, the entries.
 
 pub mod answers;
 pub mod counts;
 
 use crate::check::entry::FIELDS;
-use crate::check::Lent;
+use crate::check::{Lent, TABLES};
 use std::io::{self, Read, Write};
 
-pub const HEADER: usize = 28;
+pub const HEADER: usize = 4 * (TABLES + 1);
 pub const ENTRY: usize = 4 * FIELDS;
 /// The whole case: header, tables and entries.
 pub const CASE_MOST: u64 = 4 * 1024 * 1024;
@@ -23,13 +23,13 @@ pub struct Program {
 
 /// The sizes that a header spells.
 pub struct Header {
-    pub tables: [u64; 6],
+    pub tables: [u64; TABLES],
     pub entries: u64,
 }
 
 impl Header {
     pub fn new(bytes: &[u8; HEADER]) -> Header {
-        let [tables @ .., entries] = numbers::<7>(bytes).map(u64::from);
+        let [tables @ .., entries] = numbers::<{ TABLES + 1 }>(bytes).map(u64::from);
         Header { tables, entries }
     }
 
@@ -44,8 +44,8 @@ pub fn numbers<const N: usize>(bytes: &[u8]) -> [u32; N] {
     std::array::from_fn(|n| u32::from_le_bytes([bytes[4 * n], bytes[4 * n + 1], bytes[4 * n + 2], bytes[4 * n + 3]]))
 }
 
-/// The bytes behind the header, cut into the six tables and the entries.
-pub fn parts<'b>(header: &Header, body: &'b [u8]) -> ([&'b [u8]; 6], &'b [u8]) {
+/// The bytes behind the header, cut into the tables and the entries.
+pub fn parts<'b>(header: &Header, body: &'b [u8]) -> ([&'b [u8]; TABLES], &'b [u8]) {
     let mut rest = body;
     let tables = header.tables.map(|length| {
         let (table, after) = rest.split_at(length as usize);

@@ -1,11 +1,11 @@
 //! Step 1: the entry and the tables out of range.
 
 use super::first;
-use crate::generate::case::{Case, MADE_FIELDS};
+use crate::generate::case::{Case, MADE_FIELDS, MADE_TABLES};
 use crate::generate::space::NO_UPPER;
 use crate::random::Random;
 use second::check::entry::{BLANK, MAY_BE_BLANK, RANGES};
-use second::check::Table::{self, T643, T730};
+use second::check::Table::{T643, T730};
 
 /// A number just outside what is permitted, or far outside.
 fn outside(r: &mut Random, low: u64, high: u64, most: u64) -> u64 {
@@ -24,13 +24,13 @@ pub fn entry_out_of_range(case: &mut Case, r: &mut Random) {
 }
 
 pub fn table_not_whole(case: &mut Case, r: &mut Random) {
-    let table = r.pick(&Table::ALL);
+    let table = r.pick(&MADE_TABLES);
     let tail = r.between(1, table.row_bytes() as u64 - 1);
     case.rows(table).tail = (0..tail).map(|_| r.next() as u8).collect();
 }
 
 pub fn table_out_of_range(case: &mut Case, r: &mut Random) {
-    let table = r.pick(&Table::ALL);
+    let table = r.pick(&MADE_TABLES);
     let place = r.below(table.fields().len() as u64) as usize;
     let (_, low, high) = table.fields()[place];
     let most = if table == T730 && place == 2 { u64::MAX - 1 } else { u32::MAX as u64 };
@@ -43,7 +43,7 @@ pub fn table_out_of_range(case: &mut Case, r: &mut Random) {
 }
 
 pub fn table_empty(case: &mut Case, r: &mut Random) {
-    case.rows(r.pick(&Table::ALL)).cells.clear();
+    case.rows(r.pick(&MADE_TABLES)).cells.clear();
 }
 
 /// The three rules between fields of 643, and a row that no entry needs.

@@ -1,11 +1,11 @@
 //! Step 1, and step 2's amounts: numbers at and beside the ends of their ranges.
 
 use super::EDGES;
-use crate::generate::case::{Case, MADE_FIELDS};
+use crate::generate::case::{Case, MADE_FIELDS, MADE_TABLES};
 use crate::generate::model::model;
 use crate::random::Random;
 use second::check::entry::{BASE_UNIT, BLANK, ENTERED_UNIT, HIGHEST, ICPCTO, LOWEST, RANGES, REASON};
-use second::check::Table::{self, T640, T730};
+use second::check::Table::{T640, T730};
 
 /// One field of the entry at and beside the ends of its range.
 pub fn entry_edges(place: usize, r: &mut Random) -> Case {
@@ -38,7 +38,7 @@ pub fn cell_edges(variant: usize, r: &mut Random) -> Case {
     let mut case = model(r);
     let mut place = variant / EDGES;
     let mut table = T640;
-    for next in Table::ALL {
+    for next in MADE_TABLES {
         if place < next.fields().len() {
             table = next;
             break;
@@ -83,7 +83,7 @@ pub fn amounts(r: &mut Random) -> Case {
 /// Any numbers at all.
 pub fn wild(r: &mut Random) -> Case {
     let mut case = model(r);
-    for table in Table::ALL {
+    for table in MADE_TABLES {
         if r.percent(20) {
             case.rows(table).cells.clear();
             case.rows(table).tail = (0..r.below(3 * table.row_bytes() as u64)).map(|_| r.next() as u8).collect();

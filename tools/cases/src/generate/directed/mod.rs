@@ -15,7 +15,7 @@ use crate::random::Random;
 
 type Family = (usize, fn(usize, &mut Random) -> Case);
 
-/// Fields of the six tables.
+/// Fields of `MADE_TABLES`.
 const CELLS: usize = 32;
 /// Edges tried of each table field.
 const EDGES: usize = 6;

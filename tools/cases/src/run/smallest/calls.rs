@@ -1,9 +1,10 @@
-//! Fewer and smaller calls of file 730.
+//! Fewer and smaller calls of files 730 and 070.
 
 use super::unit_file::plainer;
 use super::{parts, Piece};
 use crate::generate::calls::{call_case, stream, CallCase};
-use second::record::calls::{calls, take, Call};
+use second::record::calls::{calls, take, Call, Record};
+use second::record::f070::Link;
 use second::record::Unit;
 use std::ops::Range;
 
@@ -92,22 +93,23 @@ impl Piece for CallCase {
 
 fn shown_call(call: &Call) -> String {
     match call {
-        Call::Read(text) => format!("read \"{}\"", text.escape_ascii()),
-        Call::Write { unit, buffer, place } => {
-            format!("write {unit:?} at {place} of {} bytes, \"{}\"", buffer.len(), buffer.escape_ascii())
+        Call::Read(file, text) => format!("read of {}, \"{}\"", file.number(), text.escape_ascii()),
+        Call::Write { record, buffer, place } => {
+            format!("write {record:?} at {place} of {} bytes, \"{}\"", buffer.len(), buffer.escape_ascii())
         }
     }
 }
 
 fn smaller_call(call: &Call) -> Box<dyn Iterator<Item = Call> + '_> {
     match call {
-        Call::Read(text) => Box::new(smaller_text(text).map(Call::Read)),
-        Call::Write { unit, buffer, place } => {
-            let written = |unit: Unit, buffer: &[u8], place: u64| Call::Write { unit, buffer: buffer.to_vec(), place };
-            let buffers = smaller_text(buffer).map(move |buffer| written(*unit, &buffer, *place));
-            let places = plainer_number(*place).map(move |place| written(*unit, buffer, place));
-            let units = smaller_unit(unit).map(move |unit| written(unit, buffer, *place));
-            Box::new(places.chain(buffers).chain(units))
+        Call::Read(file, text) => Box::new(smaller_text(text).map(|text| Call::Read(*file, text))),
+        Call::Write { record, buffer, place } => {
+            let written =
+                |record: Record, buffer: &[u8], place: u64| Call::Write { record, buffer: buffer.to_vec(), place };
+            let buffers = smaller_text(buffer).map(move |buffer| written(*record, &buffer, *place));
+            let places = plainer_number(*place).map(move |place| written(*record, buffer, place));
+            let records = smaller_record(record).map(move |record| written(record, buffer, *place));
+            Box::new(places.chain(buffers).chain(records))
         }
     }
 }
@@ -121,8 +123,30 @@ fn plainer_number(number: u64) -> impl Iterator<Item = u64> {
     [0, 1, number / 1_000, number / 10].into_iter().filter(move |new| *new < number)
 }
 
+fn smaller_record(record: &Record) -> Box<dyn Iterator<Item = Record> + '_> {
+    match record {
+        Record::Unit(unit) => Box::new(smaller_unit(unit).map(Record::Unit)),
+        Record::Link(link) => Box::new(smaller_link(link).map(Record::Link)),
+    }
+}
+
+fn long(number: u32) -> impl Iterator<Item = u32> {
+    plainer_number(number as u64).map(|number| number as u32)
+}
+
+fn smaller_link(link: &Link) -> impl Iterator<Item = Link> + '_ {
+    let mutations = long(link.mutation).map(|mutation| Link { mutation, ..*link });
+    let numbers = (0..link.numbers.len()).flat_map(move |part| {
+        long(link.numbers[part]).map(move |number| {
+            let mut link = *link;
+            link.numbers[part] = number;
+            link
+        })
+    });
+    mutations.chain(numbers)
+}
+
 fn smaller_unit(unit: &Unit) -> impl Iterator<Item = Unit> + '_ {
-    let long = |number: u32| plainer_number(number as u64).map(|number| number as u32);
     let mutations = long(unit.mutation).map(|mutation| Unit { mutation, ..*unit });
     let kinds = long(unit.srtcde).map(|srtcde| Unit { srtcde, ..*unit });
     let codes = long(unit.code).map(|code| Unit { code, ..*unit });
@@ -135,10 +159,17 @@ fn smaller_unit(unit: &Unit) -> impl Iterator<Item = Unit> + '_ {
 /// The numbers, and the characters that are not plain.
 pub fn weight(case: &CallCase) -> u128 {
     let of_call = |call: &Call| match call {
-        Call::Read(text) => super::unit_file::weight(text) as u128,
-        Call::Write { unit, buffer, place } => {
-            let codes = [unit.mutation, unit.srtcde, unit.code, unit.cdeenh].map(|number| number as u128);
-            let numbers = codes.iter().sum::<u128>() + unit.cdhoev as u128 + *place as u128;
+        Call::Read(_, text) => super::unit_file::weight(text) as u128,
+        Call::Write { record, buffer, place } => {
+            let codes = match record {
+                Record::Unit(unit) => vec![unit.mutation, unit.srtcde, unit.code, unit.cdeenh],
+                Record::Link(link) => [&[link.mutation], &link.numbers[..]].concat(),
+            };
+            let amount = match record {
+                Record::Unit(unit) => unit.cdhoev as u128,
+                Record::Link(_) => 0,
+            };
+            let numbers = codes.into_iter().map(u128::from).sum::<u128>() + amount + *place as u128;
             numbers + super::unit_file::weight(buffer) as u128
         }
     };

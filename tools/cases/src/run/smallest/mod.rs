@@ -9,7 +9,7 @@ pub mod unit_file;
 use super::program::{self, Output};
 use std::ops::Range;
 
-/// A piece of a run: a case, a case of ranges, a unit file, or calls of file 730.
+/// A piece of a run: a case, a case of ranges, a unit file, or calls of files 730 and 070.
 pub trait Piece: Clone {
     /// The command of the second program, and of `again`.
     const OF: &'static str;
