@@ -17,8 +17,9 @@ use Rattle.guideline.specs.declared.rows.TableName.the-variants.{T070}
 use Rattle.guideline.specs.declared.entries.Datum.{Datum}
 use Rattle.guideline.specs.declared.entries.Datum.the-variants.{Hpk}
 use Rattle.guideline.specs.Bytes.{Lents, spelled}
-use Rattle.guideline.specs.Values.{on}
-use Rattle.guideline.specs.Entries.{datum, permitted, with-count, with-months}
+use Rattle.guideline.specs.Values.{on, former, current}
+use Rattle.guideline.specs.Entries.{datum, permitted, with-count, with-months, with-edition}
+use Rattle.guideline.specs.Edition.{in-former}
 use Rattle.guideline.specs.Check.{after-filling, answer-length, numbers-of, outcome, place-of, check}
 use Rattle.guideline.specs.Counts.{on-unless-given, numbers-at}
 use Rattle.guideline.specs.ProofTable.{proof-table, bytes-printed}
@@ -33,7 +34,7 @@ use Rattle.guideline.proofs.Shuffle.{ReorderedBytes}
 use Rattle.guideline.proofs.Shapes.{right, at-least-1}
 use Rattle.guideline.proofs.Listed.{listed}
 use Rattle.dosecheck.specs.Answers.{Answers}
-use Rattle.dosecheck.proofs.Demands.{demand-1, demand-3-same, demand-3-later, without-table-70, reordering}
+use Rattle.dosecheck.proofs.Demands.{demand-1, demand-3-same, demand-3-later, without-table-70, two-editions, reordering}
 use Rattle.each_count.specs.Each.{AnswersEach}
 use Rattle.each_count.proofs.Lists.{refused-list, answers-list}
 
@@ -108,6 +109,11 @@ module _ (b : Lents) (first last : ℕ) where
   pub without-table-70-each : (e : Entry) (old new : List ℕ) (n i : ℕ) → AnswersEach b e first last old new (All n) → i < n → b T070 ≡ [] → numbers-at i new ≡ numbers-of (check-without-70 (spelled b) (of-place e (first + i)))
   without-table-70-each e old new n i p h empty =
       place-answers e old new n i p h refl ∙ ap numbers-of (without-table-70 b (of-place e (first + i)) refl empty)
+
+  -- P7: each place under edition 1 is what the check for its count answers under edition 2, with that one change.
+  pub two-editions-each : (e : Entry) (old new : List ℕ) (n i : ℕ) {a : Answer} → AnswersEach b (with-edition former e) first last old new (All n) → i < n → Answers b (of-place (with-edition current e) (first + i)) a → numbers-at i new ≡ numbers-of (in-former a)
+  two-editions-each e old new n i p h a =
+      place-answers (with-edition former e) old new n i p h refl ∙ ap numbers-of (two-editions b (of-place e (first + i)) refl a)
 
 -- Reordering the rows of a lent table changes no place.
 pub reordering-each : (b c : Lents) (first last : ℕ) (e : Entry) (old new old' new' : List ℕ) (n n' i : ℕ) → AnswersEach b e first last old new (All n) → AnswersEach c e first last old' new' (All n') → i < n → i < n' → ReorderedBytes b c → numbers-at i new ≡ numbers-at i new'

@@ -1,5 +1,5 @@
--- P4: "With the setting off the other eight numbers are as before." Below is the check without P4: step 9 ends with its signal, and 125 looks at no setting
--- after months. With quiet off or not given the check answers what that does (`as-before`), and nothing is suppressed (`nothing-suppressed`).
+-- P4: "With the setting off the other eight numbers are as before." Below is the check without P4: step 9 ends with its signal, and 125 does not look at
+-- quiet. With quiet off or not given the check answers what that does (`as-before`), and nothing is suppressed (`nothing-suppressed`).
 use Prim.Native.Nat.{ℕ, suc, _≤_, _<_}
 use mathlib.Core.Path.{_≡_, refl, sym, _∙_, ap, ap₂, subst, fun-ext}
 use mathlib.Core.Bool.{Bool, true, false, cond, not, _&&_, _||_, and-true}
@@ -11,7 +11,8 @@ use Rattle.guideline.specs.Values.{within, codes, off, switched, setting
 use Rattle.guideline.specs.Ask.{Plan, Done, Step, _>>=_, _>>_, at, Outcome, Chosen, Refused, run, after, chosen-or, no-data}
 use Rattle.guideline.specs.Table.{Table, some, among}
 use Rattle.guideline.specs.Rows.{Row, keyed, Tables}
-use Rattle.guideline.specs.Entries.{datum, datum-in-range, each, switch-in-range, setting-in-range, dose-in-range, units-in-range, prescription-in-range, in-range}
+use Rattle.guideline.specs.Entries.{datum, datum-in-range, each, switch-in-range, edition-in-range, setting-in-range, dose-in-range, units-in-range, prescription-in-range, in-range}
+use Rattle.guideline.specs.Edition.{in-edition}
 use Rattle.guideline.specs.Order.{line, place}
 use Rattle.guideline.specs.Forms.{when, refuse}
 use Rattle.guideline.specs.Quiet.{may-suppress, suppresses}
@@ -22,6 +23,7 @@ use Rattle.guideline.proofs.Rise.{Rises, rises-done, rises-stop, rises-
 use Rattle.guideline.proofs.Steady.{sound-rises, filling-rises, ratio-rises, product-rises, person-rises, level-rises, setting-rises, few-rises, by-age-rises, stands-rises, by-weight-rises, by-surface-rises, one-row-rises, limits-of-rises}
 use Rattle.guideline.proofs.Holds.{Holds, holds-done, holds-stop, holds-ask, holds-bind, holds-then, run-holds, Comes}
 use Rattle.guideline.proofs.AfterFilling.{keeps-step-2}
+use Rattle.guideline.proofs.InEdition.{none-suppressed}
 
 -- steps 2 to 12 with any step 9
 abbrev pub StepNine : Type 0
@@ -68,7 +70,8 @@ unfoldable pub in-range-before : Entry → Bool
 in-range-before e =
     (within codes (e .rest .gpk)
     && (setting-in-range (e .rest)
-    && (dose-in-range (e .rest) && (units-in-range (e .rest) && switch-in-range (e .rest .months)))))
+    && (dose-in-range (e .rest)
+    && (units-in-range (e .rest) && (switch-in-range (e .rest .months) && edition-in-range (e .rest .edition))))))
     && each (λ x. datum-in-range x (datum (e .known) x))
 
 unfoldable pub from-step-2-before : Tables → Entry → Outcome Reached Verdict
@@ -79,7 +82,7 @@ outcome-before t e =
     cond (in-range-before e) (after (up-to-step-2 t e) (from-step-2-before t)) (Refused (Ends Ending.EntryOutOfRange) nothing)
 
 unfoldable pub check-before : Tables → Entry → Answer
-check-before t e = answer (outcome-before t e)
+check-before t e = in-edition (e .rest .edition) (answer (outcome-before t e))
 
 -- off, or not given
 abbrev pub Off : Switch → Type 0
@@ -108,7 +111,7 @@ quiet-stays t e = ap (λ (p : Prescription). p .quiet) (keeps-step-2 t e .rest)
 module _ (e : Entry) (o : Off (e .rest .quiet)) where
   same-range : in-range e ≡ in-range-before e
   unfolding in-range in-range-before prescription-in-range
-  same-range = rw (o .1, and-true (switch-in-range (e .rest .months)))
+  same-range = rw (o .1) refl
 
   same-from-step-2 : (t : Tables) → after (up-to-step-2 t e) (from-step-2 t) ≡ after (up-to-step-2 t e) (from-step-2-before t)
   unfolding from-step-2 from-step-2-before
@@ -125,7 +128,7 @@ module _ (e : Entry) (o : Off (e .rest .quiet)) where
 
   pub as-before : (t : Tables) → check t e ≡ check-before t e
   unfolding check check-before
-  as-before t = ap answer (same-outcome t)
+  as-before t = ap (λ (u : Outcome Reached Verdict). in-edition (e .rest .edition) (answer u)) (same-outcome t)
 
 -- no test of the check as it was suppresses a signal: those that do stand from 903 to 905
 abbrev Calm : {G : Type 0} → Refusal → G → Type 0
@@ -194,7 +197,8 @@ before-step-2-calm t e =
 pub nothing-suppressed : (t : Tables) (e : Entry) → Off (e .rest .quiet) → check t e .suppressed ≡ 0
 unfolding check-before outcome-before up-to-step-2 from-step-2-before
 nothing-suppressed t e o =
-    ap (λ (a : Answer). a .suppressed) (as-before e o t) ∙ go (in-range-before e) (up-to-step-2 t e) (run-holds Calm Whatever no-data (before-step-2-calm t e))
+    ap (λ (a : Answer). a .suppressed) (as-before e o t)
+    ∙ none-suppressed (e .rest .edition) (answer (outcome-before t e)) (go (in-range-before e) (up-to-step-2 t e) (run-holds Calm Whatever no-data (before-step-2-calm t e)))
   where
     of-run : (u : Outcome Reached Verdict) → Comes Calm Whatever u → answer u .suppressed ≡ 0
     of-run (Chosen v) k = refl

@@ -1,4 +1,5 @@
--- P2 on K1 of the proof table: "1 to 3 times a day", both ends of each refusal, and which of two faults is said. P3 on the twins of weeks and months.
+-- P2 on K1 of the proof table: "1 to 3 times a day", both ends of each refusal, and which of two faults is said. P7 on the same. P3 on the twins of weeks and
+-- months.
 -- On rows and on bytes.
 use Prim.Native.Nat.{ℕ, zero, suc}
 use mathlib.Core.Bool.{Bool, true, _&&_}
@@ -6,7 +7,7 @@ use mathlib.Core.List.{List, [], _∷_, _++_}
 use lib.Dec.{T, eqb}
 use Rattle.guideline.specs.Types.{Counted, All, RangeRefused}
 use Rattle.guideline.specs.Bytes.{spelled}
-use Rattle.guideline.specs.Values.{off, on}
+use Rattle.guideline.specs.Values.{off, on, former}
 use Rattle.guideline.specs.Entries.{blank, read-entry}
 use Rattle.guideline.specs.Rows.{Tables}
 use Rattle.guideline.specs.Counts.{in-turn, counted, refusal-number, list-after}
@@ -40,7 +41,15 @@ other-count = 115 ∷ 24 ∷ 0 ∷ 1500 ∷ 33784 ∷ 0 ∷ 0 ∷ 0 ∷ 0 ∷ []
 abbrev twice : List ℕ
 twice = 100 ∷ 0 ∷ 0 ∷ 1500 ∷ 33784 ∷ 1 ∷ 0 ∷ 0 ∷ 0 ∷ []
 
--- 125: a count of 0 or above 999; a setting of 2
+-- P7: the same in edition 1
+abbrev in-edition : ℕ → ℕ → ℕ → ℕ → ℕ → List ℕ → Range
+in-edition edition first last places refusal list =
+    record { entry = put 21 edition K1; first = first; last = last; places = places; refusal = refusal; list = list }
+
+abbrev no-frequency : List ℕ
+no-frequency = 117 ∷ 8 ∷ 0 ∷ 1500 ∷ 33784 ∷ 0 ∷ 0 ∷ 0 ∷ 0 ∷ []
+
+-- 125: a count of 0 or above 999; a setting of 2; an edition that is neither 1 nor 2
 abbrev out-of-range : List ℕ
 out-of-range = 125 ∷ 0 ∷ 0 ∷ 0 ∷ 0 ∷ 0 ∷ 0 ∷ 0 ∷ 0 ∷ []
 
@@ -66,6 +75,11 @@ ranges =
     ∷ range 2 1 3 2 132 (sevens 2)
     ∷ range 2 2 2 0 132 (sevens 0)
     ∷ range 0 1 16 15 132 (sevens 15)
+    -- P7: edition 1 at each place; an edition that is not given is 125 at each, behind 131 and 132
+    ∷ in-edition former 1 3 3 0 (no-frequency ++ twice ++ no-frequency ++ sevens 0)
+    ∷ in-edition blank 1 2 2 0 (out-of-range ++ out-of-range ++ sevens 0)
+    ∷ in-edition 3 2 1 2 131 (sevens 2)
+    ∷ in-edition 0 1 2 1 132 (sevens 1)
     ∷ []
 
 -- P3. Per 36 and per 41 category 7 has twice, and once their twins 35 and 40 (TwinTraps): with the setting on, and where none is given, 1 to 2

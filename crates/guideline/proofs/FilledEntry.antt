@@ -6,7 +6,7 @@ use mathlib.Core.Bool.{Bool, true, false, cond, _&&_, _||_, false≢true}
 use native.Mathlib.Omega.{arith}
 use lib.Dec.{eqb, leb, leb·zero}
 use borrow.Author.Tests.{eqb-true, eq-eqb}
-use Rattle.guideline.specs.Types.{Datum, Hpk, Prk, Value, Blank, Given, Entry, Answer, TableName, T070, Reached}
+use Rattle.guideline.specs.Types.{Datum, Hpk, Prk, Value, Blank, Given, Prescription, Entry, Answer, TableName, T070, Reached}
 use Rattle.guideline.specs.Values.{within, codes, codes-from-1, counts-of-070, no-gpk}
 use Rattle.guideline.specs.Ask.{Outcome, Chosen, Refused, run, after, no-data}
 use Rattle.guideline.specs.Table.{One}
@@ -15,7 +15,7 @@ use Rattle.guideline.specs.Bytes.{whole-rows, rows-of, Lents, spelled}
 use Rattle.guideline.specs.Entries.{datum, permitted, datum-in-range, setting-in-range, dose-in-range, units-in-range, prescription-in-range, in-range}
 use Rattle.guideline.specs.Filling.{of-hpk, same-prk, same-gpk, agrees, prk-filled, gpk-filled, filled-by}
 use Rattle.guideline.specs.Steps.{sound, nothing}
-use Rattle.guideline.specs.Check.{up-to-step-2, after-filling, from-step-2, outcome, place-of, answer, check}
+use Rattle.guideline.specs.Check.{up-to-step-2, after-filling, from-step-2, outcome, place-of, check}
 use Rattle.guideline.proofs.Fill.{asking, fill}
 use Rattle.guideline.proofs.Run.{where-reached, run-at}
 use Rattle.guideline.proofs.Holds.{Any, Comes, run-holds}
@@ -23,7 +23,8 @@ use Rattle.guideline.proofs.Gives.{gives-table}
 use Rattle.guideline.proofs.Shuffle.{Rows, tables}
 use Rattle.guideline.proofs.Filled.{Passed, sound-passed}
 use Rattle.guideline.proofs.BeforeStep2.{step-1, OneRow}
-use Rattle.guideline.proofs.AfterFilling.{of-after-filling, filled-by-row, fill-commutes}
+use Rattle.guideline.proofs.AfterFilling.{of-after-filling, filled-by-row, keeps, fill-commutes}
+use Rattle.guideline.proofs.InEdition.{same-check}
 use Rattle.guideline.proofs.Same.{unless-125, BlankAfterFilling, Asking, complete-same}
 use Rattle.guideline.proofs.Later.{missing-later}
 
@@ -102,6 +103,10 @@ module _ (r : Row T070) (passes-122 : sound-row T070 r ≡ true) where
   unfolding in-range prescription-in-range setting-in-range dose-in-range units-in-range filled-by
   filled-in-range e = rw (prk-filled-in-range (e .known .prk), gpk-filled-in-range (e .rest .gpk)) refl
 
+-- table 70 fills no edition
+edition-stays : (t : Tables) (e : Entry) → after-filling t e .rest .edition ≡ e .rest .edition
+edition-stays t e = ap (λ (p : Prescription). p .edition) (keeps t e .rest)
+
 -- tables by their rows
 module _ (w : TableName → Bool) (l : Rows) (e : Entry) where
   abbrev t : Tables
@@ -144,8 +149,7 @@ module _ (w : TableName → Bool) (l : Rows) (e : Entry) where
 
   -- the same answer, all numbers
   pub filled-entry-same : check t (after-filling t e) ≡ check t e
-  unfolding check
-  filled-entry-same = ap answer outcome-after-filling
+  filled-entry-same = same-check t e (after-filling t e) (edition-stays t e) outcome-after-filling
 
 -- demand 3 of the entry after filling
 abbrev pub SameAfterFilling : Tables → Entry → Type 0
@@ -167,9 +171,10 @@ module _ (w : TableName → Bool) (l : Rows) (e : Entry) where
       ap (outcome (tables w l)) (sym (fill-commutes (tables w l) e x n (b .not-hpk) (b .blank) k)) ∙ outcome-after-filling w l (fill x n e)
 
   pub complete-same-after-filling : SameAfterFilling (tables w l) e
-  unfolding check
+  unfolding fill
   complete-same-after-filling h x n b k =
-      ap answer (outcome-filled-after x n b k) ∙ complete-same (tables w l) e h x n b k ∙ sym (filled-entry-same w l e)
+      same-check (tables w l) (fill x n e) (fill x n (after-filling (tables w l) e)) (edition-stays (tables w l) e) (outcome-filled-after x n b k)
+      ∙ complete-same (tables w l) e h x n b k ∙ sym (filled-entry-same w l e)
 
   pub missing-later-after-filling : LaterAfterFilling (tables w l) e
   missing-later-after-filling h =

@@ -2,16 +2,17 @@
 use Prim.Native.Nat.{ℕ}
 use mathlib.Core.Bool.{Bool, cond}
 use mathlib.Core.List.{List}
-use mathlib.Core.Path.{_≡_, refl, ap, ap₂}
+use mathlib.Core.Path.{_≡_, refl, ap₂}
 use Rattle.guideline.specs.Types.{NotGiven, Position, Entry, Ending, Ends, Reached, Counted, All, RangeRefused}
 use Rattle.guideline.specs.Values.{off, on}
 use Rattle.guideline.specs.Rows.{Tables}
 use Rattle.guideline.specs.Ask.{Outcome, Refused}
 use Rattle.guideline.specs.Entries.{in-range, with-months}
 use Rattle.guideline.specs.Steps.{Verdict, nothing}
-use Rattle.guideline.specs.Check.{up-to-step-2, from-step-2, answer, outcome, check}
+use Rattle.guideline.specs.Check.{up-to-step-2, from-step-2, outcome, check}
 use Rattle.guideline.specs.Counts.{places-in, single, answer-for, counted, listing, list-after}
 use Rattle.guideline.proofs.Opened.{opened}
+use Rattle.guideline.proofs.InEdition.{same-check}
 use Rattle.guideline.proofs.BeforeStep2.{after-alike, Treated, alike}
 
 module _ (t : Tables) (e : Entry) where
@@ -36,8 +37,7 @@ module _ (t : Tables) (e : Entry) where
       (after-alike Same (from-step-2 t) (from-step-2 t) (λ f f′ h. h) (up-to-step-2 t (with-months (Position off) e)) (up-to-step-2 t (with-months NotGiven e)) (alike t Same _ _ treated))
 
   pub check-not-given-is-off : check t (with-months NotGiven e) ≡ check t (with-months (Position off) e)
-  unfolding check
-  check-not-given-is-off = ap answer not-given-is-off
+  check-not-given-is-off = same-check t (with-months (Position off) e) (with-months NotGiven e) refl not-given-is-off
 
   -- "each of its answers equals the single check with on"
   pub range-answers-with-on : (count : ℕ) → answer-for t (with-months NotGiven e) count ≡ single t (with-months (Position on) e) count

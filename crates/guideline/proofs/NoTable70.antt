@@ -9,6 +9,7 @@ use Rattle.guideline.specs.Table.{Hits, None, all-rows}
 use Rattle.guideline.specs.Rows.{Row, sound-row, Tables}
 use Rattle.guideline.specs.Bytes.{whole-rows, seen, Lents, spelled}
 use Rattle.guideline.specs.Entries.{datum, in-range}
+use Rattle.guideline.specs.Edition.{in-edition}
 use Rattle.guideline.specs.Forms.{when, demand}
 use Rattle.guideline.specs.Filling.{of-hpk}
 use Rattle.guideline.specs.Steps.{each-table, whole, in-ranges, sound, nothing, Verdict, over-sound}
@@ -34,7 +35,7 @@ outcome-without-70 t e =
     cond (in-range e) (run (datum (e .known)) (plan-without-70 t (e .rest))) (Refused (Ends Ending.EntryOutOfRange) nothing)
 
 unfoldable pub check-without-70 : Tables → Entry → Answer
-check-without-70 t e = answer (outcome-without-70 t e)
+check-without-70 t e = in-edition (e .rest .edition) (answer (outcome-without-70 t e))
 
 -- a table 70 without rows
 pub record Empty70 (t : Tables) : Type 0 where
@@ -78,7 +79,7 @@ module _ (t : Tables) (empty : Empty70 t) (e : Entry) where
 
   pub empty-as-before : check t e ≡ check-without-70 t e
   unfolding check check-without-70
-  empty-as-before = ap answer empty-outcome-as-before
+  empty-as-before = ap (λ (o : Outcome Reached Verdict). in-edition (e .rest .edition) (answer o)) empty-outcome-as-before
 
 -- no byte of table 70 is lent
 pub no-bytes-as-before : (b : Lents) (e : Entry) → b T070 ≡ [] → check (spelled b) e ≡ check-without-70 (spelled b) e

@@ -74,6 +74,9 @@ entry-ends =
     ∷ unit 17
     ∷ code 18
     ∷ end 19 (blank ∷ 0 ∷ 1 ∷ []) (2 ∷ [])
+    ∷ end 20 (blank ∷ 0 ∷ 1 ∷ []) (2 ∷ [])
+    -- P7: an edition is never "not given"
+    ∷ end 21 (1 ∷ 2 ∷ []) (0 ∷ 3 ∷ blank ∷ [])
     ∷ []
 
 unfoldable pub entry-ends-with-reason : List End

@@ -87,6 +87,7 @@ impl Entry {
             code: p.code,
             months,
             quiet,
+            edition: p.edition,
         };
         let known = self.known;
         Entry { known, rest }
@@ -119,9 +120,15 @@ pub struct Prescription {
     pub code: u32,
     pub months: Switch,
     pub quiet: Switch,
+    pub edition: u32,
 }
 
 impl Prescription {
     // "GPK (0 none)"
     pub const NO_GPK: u32 = 0;
+
+    // P7: hosts that have only text 8 for a missing frequency, and hosts with 24 and 25.
+    pub const FORMER: u32 = 1;
+
+    pub const CURRENT: u32 = 2;
 }

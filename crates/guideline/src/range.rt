@@ -1,7 +1,8 @@
 // The ranges of document 01's fields.
 ghost use mathlib.Core.Path.{_≡_};
-ghost use Rattle.guideline.specs.Values.{within, codes, codes-from-1, units, counts, counts-of-070, doses, limits, ages, weights, surfaces, sexes, sexes-of-640, risks, levels, care-groups, icpctos, positions, amount-in-range, amount-zero, amount-large};
+ghost use Rattle.guideline.specs.Values.{within, codes, codes-from-1, units, counts, counts-of-070, doses, limits, ages, weights, surfaces, sexes, sexes-of-640, risks, levels, care-groups, icpctos, positions, editions, amount-in-range, amount-zero, amount-large};
 use crate::both;
+use crate::entries::Prescription;
 use crate::entries::Switch;
 use crate::rows::Row640;
 use crate::rows::Row641;
@@ -190,6 +191,15 @@ impl Range {
         Range {
             low: Switch::OFF,
             high: Switch::ON,
+        }
+    }
+
+    pub fn editions() -> Range
+        ensures { λ r. ⌜ r ≡ editions ⌝ }
+    {
+        Range {
+            low: Prescription::FORMER,
+            high: Prescription::CURRENT,
         }
     }
 }

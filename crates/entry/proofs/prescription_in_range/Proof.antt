@@ -18,7 +18,9 @@ returns c =
     let c9 = c8 .before in
     let c10 = c9 .before in
     let c11 = c10 .before in
-    rw (c .both5 .ensures, c1 .both4 .ensures, c2 .setting-in-range .ensures, c3 .holds .ensures, c4 .codes .ensures, c5 .both3 .ensures, c6 .both2 .ensures, c7 .units-in-range .ensures, c8 .dose-in-range .ensures, c9 .both .ensures, c10 .switch-in-range2 .ensures, c11 .switch-in-range .ensures)
+    let c12 = c11 .before in
+    let c13 = c12 .before in
+    rw (c .both6 .ensures, c1 .both5 .ensures, c2 .setting-in-range .ensures, c3 .holds .ensures, c4 .codes .ensures, c5 .both4 .ensures, c6 .both3 .ensures, c7 .units-in-range .ensures, c8 .dose-in-range .ensures, c9 .both2 .ensures, c10 .both .ensures, c11 .switch-in-range2 .ensures, c12 .switch-in-range .ensures, c13 .edition-in-range .ensures)
 
 pub prescription-in-range-spec : {M : Type 1} → statement M
-prescription-in-range-spec = tie.close (tie.spec (λ c κs. search needs) (λ c κs. search needs) (λ c κs. search needs) (λ c κs. search needs) (λ c κs. search needs) (λ c κs. search needs) (λ c κs. search needs) (λ c κs. search needs) (λ c κs. search needs) (λ c κs. search needs) (λ c κs. search needs) (λ c κs. search needs) returns)
+prescription-in-range-spec = tie.close (tie.spec (λ c κs. search needs) (λ c κs. search needs) (λ c κs. search needs) (λ c κs. search needs) (λ c κs. search needs) (λ c κs. search needs) (λ c κs. search needs) (λ c κs. search needs) (λ c κs. search needs) (λ c κs. search needs) (λ c κs. search needs) (λ c κs. search needs) (λ c κs. search needs) (λ c κs. search needs) returns)
