@@ -2,7 +2,7 @@
 -- quiet. With quiet off or not given the check answers what that does (`as-before`), and nothing is suppressed (`nothing-suppressed`).
 use Prim.Native.Nat.{ℕ, suc, _≤_, _<_}
 use mathlib.Core.Path.{_≡_, refl, sym, _∙_, ap, ap₂, subst, fun-ext}
-use mathlib.Core.Bool.{Bool, true, false, cond, not, _&&_, _||_, and-true}
+use mathlib.Core.Bool.{Bool, true, false, cond, not, _&&_, _||_}
 use native.Mathlib.Nat.{le-refl, le-trans, le-of-lt}
 use borrow.Author.Tests.{eqb-true}
 use lib.Dec.{T, eqb, leb, ltb, lit≤, le→leb, lt→ltb}
@@ -65,7 +65,7 @@ frequency-before e c t =
     when (some (t (exact e))) (Done (among (exact e) t))
     (when (some (t (twin e))) (Done (among (twin e) t)) (refuse (Ending.NoFrequency (signal e t))))
 
--- 125 before P4
+-- 125 without quiet
 unfoldable pub in-range-before : Entry → Bool
 in-range-before e =
     (within codes (e .rest .gpk)

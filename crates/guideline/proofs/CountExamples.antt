@@ -14,6 +14,7 @@ use Rattle.guideline.specs.Counts.{in-turn, counted, refusal-number, lis
 use Rattle.guideline.specs.ProofTable.{proof-table, rows-printed, bytes-printed, K1, put, same}
 use Rattle.guideline.proofs.Opened.{opened}
 use Rattle.guideline.proofs.TwinTraps.{twin-tables}
+use Rattle.guideline.proofs.EditionTraps.{former-117, out-of-range}
 
 -- a list of so many places, with two numbers that are no place; 7 stands in all of them
 abbrev sevens : ℕ → List ℕ
@@ -41,17 +42,12 @@ other-count = 115 ∷ 24 ∷ 0 ∷ 1500 ∷ 33784 ∷ 0 ∷ 0 ∷ 0 ∷ 0 ∷ []
 abbrev twice : List ℕ
 twice = 100 ∷ 0 ∷ 0 ∷ 1500 ∷ 33784 ∷ 1 ∷ 0 ∷ 0 ∷ 0 ∷ []
 
--- P7: the same in edition 1
-abbrev in-edition : ℕ → ℕ → ℕ → ℕ → ℕ → List ℕ → Range
-in-edition edition first last places refusal list =
+-- P7: K1 in an edition
+abbrev range-in : ℕ → ℕ → ℕ → ℕ → ℕ → List ℕ → Range
+range-in edition first last places refusal list =
     record { entry = put 21 edition K1; first = first; last = last; places = places; refusal = refusal; list = list }
 
-abbrev no-frequency : List ℕ
-no-frequency = 117 ∷ 8 ∷ 0 ∷ 1500 ∷ 33784 ∷ 0 ∷ 0 ∷ 0 ∷ 0 ∷ []
-
--- 125: a count of 0 or above 999; a setting of 2; an edition that is neither 1 nor 2
-abbrev out-of-range : List ℕ
-out-of-range = 125 ∷ 0 ∷ 0 ∷ 0 ∷ 0 ∷ 0 ∷ 0 ∷ 0 ∷ 0 ∷ []
+-- 125, `out-of-range`: a count of 0 or above 999; a setting of 2; an edition that is neither 1 nor 2
 
 unfoldable pub ranges : List Range
 ranges =
@@ -76,10 +72,10 @@ ranges =
     ∷ range 2 2 2 0 132 (sevens 0)
     ∷ range 0 1 16 15 132 (sevens 15)
     -- P7: edition 1 at each place; an edition that is not given is 125 at each, behind 131 and 132
-    ∷ in-edition former 1 3 3 0 (no-frequency ++ twice ++ no-frequency ++ sevens 0)
-    ∷ in-edition blank 1 2 2 0 (out-of-range ++ out-of-range ++ sevens 0)
-    ∷ in-edition 3 2 1 2 131 (sevens 2)
-    ∷ in-edition 0 1 2 1 132 (sevens 1)
+    ∷ range-in former 1 3 3 0 (former-117 ++ twice ++ former-117 ++ sevens 0)
+    ∷ range-in blank 1 2 2 0 (out-of-range ++ out-of-range ++ sevens 0)
+    ∷ range-in 3 2 1 2 131 (sevens 2)
+    ∷ range-in 0 1 2 1 132 (sevens 1)
     ∷ []
 
 -- P3. Per 36 and per 41 category 7 has twice, and once their twins 35 and 40 (TwinTraps): with the setting on, and where none is given, 1 to 2

@@ -8,12 +8,11 @@ use lib.Dec.{T, eqb}
 use Rattle.guideline.specs.Types.{Entry, Answer, Ending, Refusal, Ends, Reached, Compared}
 use Rattle.guideline.specs.Values.{within, codes, narrow-range, former, current}
 use Rattle.guideline.specs.Ask.{Outcome, Chosen, Refused, after}
-use Rattle.guideline.specs.Order.{line}
 use Rattle.guideline.specs.Rows.{Tables}
 use Rattle.guideline.specs.Entries.{datum, datum-in-range, each, switch-in-range, edition-in-range, setting-in-range, dose-in-range, units-in-range, prescription-in-range, in-range, with-edition}
 use Rattle.guideline.specs.Edition.{missing-frequency, former-signal, former-text, in-former, in-edition}
 use Rattle.guideline.specs.Steps.{Verdict, nothing}
-use Rattle.guideline.specs.Check.{up-to-step-2, from-step-2, outcome, place-of, compared, answer, check}
+use Rattle.guideline.specs.Check.{up-to-step-2, from-step-2, outcome, place-of, refused, compared, answer, check}
 use Rattle.guideline.proofs.AllRefusals.{of-every-refusal}
 use Rattle.guideline.proofs.Opened.{opened}
 use Rattle.guideline.proofs.BeforeStep2.{after-alike, Treated, alike}
@@ -92,16 +91,10 @@ compared-in-former-set c g = go (eqb (c .high) 2) (eqb (c .high) 1) (eqb (c .low
     go false false true r = tt
     go false false false r = tt
 
--- a refusal's numbers, as edition 1 gives them
-abbrev refused-in-former-set : Refusal → Bool
-refused-in-former-set r =
-    not (eqb (former-signal (line r .answer)) 115 || eqb (former-signal (line r .answer)) 116)
-    && (not (eqb (former-signal (line r .suppressed)) 115 || eqb (former-signal (line r .suppressed)) 116)
-    && not (eqb (former-text (line r .answer) (line r .text)) 24 || eqb (former-text (line r .answer) (line r .text)) 25))
-
-refused-so : (r : Refusal) → T (refused-in-former-set r)
-unfolding former-signal former-text missing-frequency
-refused-so = of-every-refusal refused-in-former-set tt
+-- what is reached is none of these numbers
+refused-in-former-set : (r : Refusal) → T (in-former-set (in-former (refused r nothing)))
+unfolding in-former former-signal former-text missing-frequency
+refused-in-former-set = of-every-refusal (λ r. in-former-set (in-former (refused r nothing))) tt
 
 pub former-set-only : (t : Tables) (e : Entry) → e .rest .edition ≡ former → T (in-former-set (check t e))
 unfolding check in-edition in-former
@@ -109,4 +102,4 @@ former-set-only t e h = subst (λ (n : ℕ). T (in-former-set (in-edition n (ans
   where
     go : (o : Outcome Reached Verdict) → T (in-former-set (in-former (answer o)))
     go (Chosen v) = compared-in-former-set (v .compared) (v .reached)
-    go (Refused r g) = refused-so r
+    go (Refused r g) = refused-in-former-set r

@@ -2,23 +2,22 @@
 ghost use mathlib.Core.Path.{_≡_};
 ghost use Rattle.guideline.specs.declared.rows.TableName.the-variants.{T070};
 ghost use Rattle.guideline.specs.Rows.{sound-row};
-use guideline::range::Range;
 use guideline::rows::Row070;
 
 pub fn in_range(r: Row070) -> bool
     ensures { λ b. ⌜ b ≡ sound-row T070 r ⌝ }
 {
     guideline::both(
-        Range::codes_from_1().holds(r.hpkode),
+        fields::codes_from_1().holds(r.hpkode),
         guideline::both(
-            Range::codes_from_1().holds(r.prkode),
+            fields::codes_from_1().holds(r.prkode),
             guideline::both(
-                Range::counts_of_070().holds(r.hpanpr),
+                fields::counts_of_070().holds(r.hpanpr),
                 guideline::both(
-                    Range::codes_from_1().holds(r.gpkode),
+                    fields::codes_from_1().holds(r.gpkode),
                     guideline::both(
-                        Range::counts_of_070().holds(r.prangp),
-                        Range::counts_of_070().holds(r.hpangp),
+                        fields::counts_of_070().holds(r.prangp),
+                        fields::counts_of_070().holds(r.hpangp),
                     ),
                 ),
             ),

@@ -28,7 +28,8 @@ const HELP: &str = "cases: random and stored cases, and the comparison of a prog
   cases edges answers|counts|units|calls PROGRAM
                                    whole and damaged inputs
   cases demand3 answers|counts PROGRAM RUN
-                                   fills blanks and reorders rows, judges the answers of PROGRAM, and compares them
+                                   fills blanks, asks in both editions and reorders rows, judges the answers of
+                                   PROGRAM, and compares them
   cases fill answers|counts RUN    the stream demand3 sends
   cases store answers|counts|broken|units|calls DIR
                                    stored vectors: DIR/stdin and DIR/stdout (broken: a folder for each)

@@ -19,8 +19,10 @@ fn line(case: &Case, entry: Numbers) -> String {
     lines(&case).remove(0)
 }
 
+/// By P7 their entries say edition 2.
 #[test]
 fn k1_to_k15_with_all_nine_numbers() {
+    assert!(k_case().entries.iter().all(|entry| entry[EDITION] == 2));
     let answers = lines(&k_case());
     assert_eq!(answers.len(), K.len());
     for ((name, _, expected), answer) in K.iter().zip(answers) {

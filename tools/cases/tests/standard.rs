@@ -75,14 +75,19 @@ fn file(name: &str) -> Vec<u8> {
     fs::read(format!("{}/../../crates/{name}", env!("CARGO_MANIFEST_DIR"))).expect(name)
 }
 
+/// What is stored has to stay below this. With P7 each of its 10,016 older entries took 4 bytes more, and P7's own cases 40 kB;
+/// the older cases have to stay.
+const STORED_BYTES: usize = 5_460_000;
+
 /// What the gate runs the proved programs on: K1 to K15 first, thousands of cases, about 5 MB.
 #[test]
 fn the_stored_files_are_these_vectors() {
     let (stdin, stdout) = store::stream(&STORED);
     assert!(file("answers/stdin") == stdin && file("answers/stdout") == stdout, "run tools/store-cases");
     assert!(stdin.starts_with(&proof_table::with(&proof_table::K[..proof_table::BEFORE_P1]).bytes()));
-    let later = [store::key_cases(), store::p1_cases(), store::p3_cases(), store::p4_cases(), store::p5_cases()];
-    assert!(STORED.len() == store::CASES + later.concat().len() && store::CASES >= 3_000 && stdin.len() < 5_400_000);
+    let before = [store::key_cases(), store::p1_cases(), store::p3_cases(), store::p4_cases(), store::p5_cases()];
+    let later = before.concat().len() + store::p7_cases().len();
+    assert!(STORED.len() == store::CASES + later && store::CASES >= 3_000 && stdin.len() < STORED_BYTES);
     let units = store::unit_input();
     assert!(file("unit_list/stdin").starts_with(&units), "run tools/store-cases");
     assert!(file("unit_list/stdout").starts_with(&unit_list(&units)), "run tools/store-cases");
@@ -100,7 +105,8 @@ fn the_stored_ranges_are_these_vectors() {
     let (stdin, stdout) = store_counts::stream(&cases);
     assert!(file("counts/stdin") == stdin && file("counts/stdout") == stdout, "run tools/store-cases");
     assert!(stdin.starts_with(&proof_ranges::k_1_to_3().bytes()) && stdout.ends_with(b"\nbroken\n"));
-    let later = [store_counts::p3_cases(), store_counts::p4_cases(), store_counts::p5_cases()].concat().len();
+    let before = [store_counts::p3_cases(), store_counts::p4_cases(), store_counts::p5_cases()];
+    let later = before.concat().len() + store_counts::p7_cases().len();
     assert!(cases.len() == store_counts::CASES + later && stdin.len() < 500_000);
     let mut lines = vec![];
     run(&COUNTS, &stdin[..], &mut lines).expect("a slice is read and a vector written");
@@ -227,8 +233,10 @@ fn told(of: &str, name: &str, filter: &str) -> (String, usize) {
     (what, bytes.len())
 }
 
+/// 22 numbers.
+const ENTRY: usize = 88;
 /// A weight outside all rows needs a row of each of four tables, and an entry.
-const FOUR_ROWS: usize = 32 + 12 + 20 + 24 + 40 + 84;
+const FOUR_ROWS: usize = 32 + 12 + 20 + 24 + 40 + ENTRY;
 
 #[test]
 fn a_wrong_check_is_told_by_a_small_case() {
@@ -240,16 +248,20 @@ fn a_wrong_check_is_told_by_a_small_case() {
     assert_eq!(told("answers", "more-lines", "sed '/^118 14 /p'").1, FOUR_ROWS);
     let (what, _) = told("answers", "bad-end", "awk '{ print } /^118 14 / { exit 3 }'");
     assert!(what.contains("ended with exit status: 3"), "{what}");
-    assert_eq!(told("answers", "nothing", "cat >/dev/null").1, 32 + 84);
+    assert_eq!(told("answers", "nothing", "cat >/dev/null").1, 32 + ENTRY);
     // Of table 70 one row, and two.
     let (what, length) = told("answers", "differs", "sed 's/^133 0 /133 16 /'");
-    assert_eq!(length, 32 + 24 + 84, "{what}");
-    assert_eq!(told("answers", "several-70", "sed 's/^123 0 70 /133 0 0 /'").1, 32 + 48 + 84);
+    assert_eq!(length, 32 + 24 + ENTRY, "{what}");
+    assert_eq!(told("answers", "several-70", "sed 's/^123 0 70 /133 0 0 /'").1, 32 + 48 + ENTRY);
+    // A signal is suppressed by a rule of 649, and only edition 1 calls it 117.
+    let (what, length) = told("answers", "suppressed-117", "sed 's/ 117$/ 115/'");
+    assert_eq!(length, FOUR_ROWS + 16, "{what}");
+    assert!(what.contains("quiet 1, edition 1\nsecond:  100 ") && what.contains(" (by the test Suppressed)"), "{what}");
     assert!(comparison(&room("no-program"), "answers", "no such program").is_err());
 }
 
 /// A range of no places, or of no count, needs no row.
-const NO_ROW: usize = 32 + 96;
+const NO_ROW: usize = 32 + ENTRY + 12;
 
 #[test]
 fn a_wrong_range_is_told_by_a_small_case() {
@@ -289,6 +301,7 @@ fn demand_3_holds_and_a_wrong_question_is_told() {
         let judged = demand3::run(of, &program(of), 5, 0..2_000, &report).expect("demand 3");
         assert!(judged.fillings_of_the_question > 1_000 && judged.fillings_of_other_answers > 1_000, "{judged:?}");
         assert!(judged.fillings_of_step_9 > 500 && judged.filled_by_hpk > 2_000, "{judged:?}");
+        assert!(judged.in_both_editions > 10_000 && judged.editions_differ > 2_000, "{judged:?}");
         let wrong = |name: &str, filter: &str| wrong(of, &format!("{of}-{name}"), filter);
         let wrong_question = wrong("wrong-question", "sed 's/^105 10 /106 11 /'");
         let what = demand3::run(of, &wrong_question, 5, 0..2_000, &report).expect_err("a wrong question");
@@ -297,6 +310,10 @@ fn demand_3_holds_and_a_wrong_question_is_told() {
         let asks = wrong("differs", "sed 's/^133 0 /104 16 /'");
         let what = demand3::run(of, &asks, 5, 0..2_000, &report).expect_err("a wrong question");
         assert!(what.starts_with("demand 3 is broken") && what.contains("104 asks for PRK, which is given"), "{what}");
+        // One that gives edition 1 another text than 8.
+        let former = wrong("former-text", "sed 's/^117 8 /117 24 /'");
+        let what = demand3::run(of, &former, 5, 0..2_000, &report).expect_err("another edition");
+        assert!(what.contains("the editions differ otherwise than P7 says"), "{what}");
         // One that is steady, and differs all the same.
         let steady = wrong("wrong-and-steady", "sed 's/^118 14 /118 15 /'");
         let what = demand3::run(of, &steady, 5, 0..2_000, &report).expect_err("a difference");

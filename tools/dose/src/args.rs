@@ -1,6 +1,7 @@
 //! The words after `dose`.
 
 use crate::check::Check;
+use crate::edition;
 use crate::records::Products;
 use crate::units::Units;
 use std::ffi::OsString;
@@ -24,7 +25,16 @@ pub fn read(words: impl Iterator<Item = OsString>) -> Result<Command, String> {
         Some("check") => {
             let [tables, entries] = options.files("check TABLES ENTRIES")?;
             let Options { is_csv, program, counts_program, calls_program, .. } = options;
-            Ok(Command::Check(Check { tables, entries, is_csv, program, counts_program, calls_program }))
+            let edition = options.edition.unwrap_or(edition::DEFAULT);
+            Ok(Command::Check(Check {
+                tables,
+                entries,
+                edition,
+                is_csv,
+                program,
+                counts_program,
+                calls_program,
+            }))
         }
         Some("units") => {
             let [file] = options.of_list("units")?.files("units FILE")?;
@@ -42,6 +52,7 @@ pub fn read(words: impl Iterator<Item = OsString>) -> Result<Command, String> {
 struct Options {
     files: Vec<PathBuf>,
     is_csv: bool,
+    edition: Option<u64>,
     program: Option<PathBuf>,
     counts_program: Option<PathBuf>,
     calls_program: Option<PathBuf>,
@@ -53,6 +64,10 @@ impl Options {
         while let Some(word) = words.next() {
             match word.to_str() {
                 Some("--csv") => options.is_csv = true,
+                Some("--edition") => {
+                    let word = words.next().ok_or("--edition needs a number: 1 or 2")?;
+                    options.edition = Some(edition::of_option(&word)?);
+                }
                 Some("--program") => {
                     options.program = Some(words.next().ok_or("--program needs a PATH")?.into());
                 }
@@ -71,10 +86,11 @@ impl Options {
         Ok(options)
     }
 
-    /// A list has one program, and is no CSV.
+    /// A list has one program and no entries, and is no CSV.
     fn of_list(&self, command: &str) -> Result<&Options, String> {
         let others = [
             ("--csv", self.is_csv),
+            ("--edition", self.edition.is_some()),
             ("--counts-program", self.counts_program.is_some()),
             ("--calls-program", self.calls_program.is_some()),
         ];

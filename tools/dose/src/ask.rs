@@ -72,7 +72,8 @@ fn read(line: &str, due: &Due) -> Result<Answer, String> {
     if answer.suppressed != 0 && !due.is_quiet {
         return Err(format!("`{line}`: a signal is suppressed, and the entry does not say quiet on"));
     }
-    if let Some(why) = due.said.contradicts(&answer) {
+    let contradiction = due.edition.contradicts(&answer).or(due.said.contradicts(&answer).map(String::from));
+    if let Some(why) = contradiction {
         return Err(format!("`{line}`: {why}"));
     }
     Ok(answer)

@@ -1,7 +1,7 @@
 //! `dose check`: nothing is sent unless all files are sound, and nothing is printed unless all lines are.
 
 use crate::ask::{self, Line, Part};
-use crate::columns::{ENTRY, LIMITS, LINKS, LINK_RECORDS, TABLES};
+use crate::columns::{EDITION, ENTRY, LIMITS, LINKS, LINK_RECORDS, TABLES};
 use crate::due::{self, Due};
 use crate::failure::{Failure, Fault};
 use crate::limits::Limits;
@@ -17,6 +17,8 @@ use std::path::{Path, PathBuf};
 pub struct Check {
     pub tables: PathBuf,
     pub entries: PathBuf,
+    /// The edition of the entries that give none.
+    pub edition: u64,
     pub is_csv: bool,
     /// Where the programs `answers` and `counts` are, if that was said.
     pub program: Option<PathBuf>,
@@ -26,7 +28,9 @@ pub struct Check {
 }
 
 pub fn run(check: &Check) -> Result<(), Failure> {
-    let (tables, entries) = read(check)?;
+    let (tables, mut entries) = read(check)?;
+    // to the programs an edition that is not given is 125
+    entries.fill(EDITION, check.edition);
     let bytes = Tables::new(check.tables.display().to_string(), &tables);
     let links = Links::new(table(&tables, LINKS));
     let parts = parts(check, &bytes, &entries, &links).map_err(|fault| Failure::Refused(vec![fault]))?;

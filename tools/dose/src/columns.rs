@@ -22,9 +22,10 @@ pub struct Column {
 }
 
 impl Column {
-    /// Files from before P4 have no column quiet: it is then not given in any row. Such a column must be the last.
+    /// Files from before P4 have no column quiet, and those from before P7 no edition: each may be absent, and is then
+    /// blank in every row. Behind such a column only others of its kind may stand.
     pub fn may_be_absent(&self) -> bool {
-        self.name == QUIET
+        [QUIET, EDITION].contains(&self.name)
     }
 }
 
@@ -129,10 +130,11 @@ pub const ENTRY: &[Column] = &[
     number("CODE"),
     on_off("months"),
     on_off(QUIET),
+    or_blank(EDITION),
 ];
 
 // The fields that the front itself reads: to show the limits, the counts and what an HPK brings, and to know where a
-// signal may be suppressed.
+// signal may be suppressed and which signals there are.
 pub const LIMITS: &str = "649.csv";
 pub const RULE: &str = "GPDDNR";
 pub const NORM_MINIMUM: &str = "norm minimum";
@@ -141,6 +143,7 @@ pub const ABSOLUTE_MAXIMUM: &str = "absolute maximum";
 pub const BASE_UNIT: &str = "base unit";
 pub const COUNT: &str = "count";
 pub const QUIET: &str = "quiet";
+pub const EDITION: &str = "edition";
 pub const GPK: &str = "GPK";
 pub const PRK: &str = "PRK";
 pub const HPK: &str = "HPK";

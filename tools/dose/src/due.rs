@@ -1,7 +1,8 @@
 //! The lines that the proved programs owe for the entries. The entries alone say which: so a line too few, too many
 //! or of another kind is known as such.
 
-use crate::columns::QUIET;
+use crate::columns::{EDITION, QUIET};
+use crate::edition::Edition;
 use crate::links::{Links, Said};
 use crate::number::ON;
 use crate::range::Range;
@@ -13,6 +14,8 @@ pub struct Due {
     pub row: usize,
     /// Whether the entry says quiet on: only then may a signal be suppressed (P4).
     pub is_quiet: bool,
+    /// Which texts the entry's host has for a missing frequency (P7).
+    pub edition: Edition,
     /// What table 70 says of the entry's HPK (P5).
     pub said: Said,
     pub what: What,
@@ -30,10 +33,11 @@ pub enum What {
 /// In the order of the entries; the counts of a range rise.
 pub fn of(entries: &Sheet, links: &Links) -> Vec<Due> {
     let mut due = Vec::with_capacity(entries.len());
-    let quiet = entries.place(QUIET);
+    let [quiet, edition] = [QUIET, EDITION].map(|name| entries.place(name));
     for (row, range) in entries.ranges().iter().enumerate() {
         let is_quiet = entries.row(row)[quiet] == ON;
-        let one = |what| Due { row, is_quiet, said: links.of(entries, row), what };
+        let edition = Edition::of(entries.row(row)[edition]);
+        let one = |what| Due { row, is_quiet, edition, said: links.of(entries, row), what };
         match *range {
             None => due.push(one(What::Answer)),
             Some(range) if range.is_refused() => due.push(one(What::Refusal(range))),

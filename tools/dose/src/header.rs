@@ -5,7 +5,8 @@ use crate::columns::Column;
 /// What is wrong with the header, each fault with the names and positions concerned; nothing if it is right.
 /// `first` is the position of the first column, counted from 1.
 pub fn faults(columns: &[Column], found: &[&str], first: usize) -> Vec<String> {
-    let header = Header { columns, found, first };
+    let is_due = |column: &&Column| !column.may_be_absent() || found.contains(&column.name);
+    let header = Header { columns, due: columns.iter().filter(is_due).collect(), found, first };
     let mut faults = header.missing();
     faults.extend(header.extra());
     faults.extend(header.twice());
@@ -20,6 +21,8 @@ pub fn faults(columns: &[Column], found: &[&str], first: usize) -> Vec<String> {
 
 struct Header<'a> {
     columns: &'a [Column],
+    /// All columns but those that may be absent and are.
+    due: Vec<&'a Column>,
     found: &'a [&'a str],
     first: usize,
 }
@@ -28,7 +31,7 @@ impl Header<'_> {
     /// Says what stands where the column of this place must be.
     fn expected(&self, place: usize) -> String {
         let position = place + self.first;
-        let name = self.columns[place].name;
+        let name = self.due[place].name;
         match self.found.get(place) {
             Some(&"") => format!("column {position} must be {name}, but has no name"),
             Some(other) => format!("column {position} must be {name}, but {other} stands there"),
@@ -36,15 +39,10 @@ impl Header<'_> {
         }
     }
 
-    /// Whether the column of this place stands in the header, wherever.
-    fn has(&self, place: usize) -> bool {
-        self.found.contains(&self.columns[place].name)
-    }
-
     fn missing(&self) -> Vec<String> {
-        let absent = |&place: &usize| !self.has(place) && !self.columns[place].may_be_absent();
-        let say = |place: usize| format!("{} is missing: {}", self.columns[place].name, self.expected(place));
-        (0..self.columns.len()).filter(absent).map(say).collect()
+        let is_absent = |&place: &usize| !self.found.contains(&self.due[place].name);
+        let say = |place: usize| format!("{} is missing: {}", self.due[place].name, self.expected(place));
+        (0..self.due.len()).filter(is_absent).map(say).collect()
     }
 
     fn extra(&self) -> Vec<String> {
@@ -54,16 +52,22 @@ impl Header<'_> {
                 continue;
             }
             let shown = if name.is_empty() { "a column without a name" } else { name };
-            let position = place + self.first;
-            faults.push(match self.columns.get(place) {
-                Some(column) if column.may_be_absent() => {
-                    format!("{shown} is extra: column {position} may only be {}", column.name)
-                }
-                Some(column) => format!("{shown} is extra: column {position} must be {}", column.name),
-                None => format!("{shown} is extra: there must be no column {position}"),
-            });
+            faults.push(format!("{shown} is extra: {}", self.allowed(place)));
         }
         faults
+    }
+
+    /// Says what may stand at this place.
+    fn allowed(&self, place: usize) -> String {
+        let position = place + self.first;
+        let absent = self.columns.iter().skip(place).filter(|column| !self.found.contains(&column.name));
+        let absent: Vec<&str> = absent.map(|column| column.name).collect();
+        match self.due.get(place) {
+            Some(column) if !column.may_be_absent() => format!("column {position} must be {}", column.name),
+            _ if !absent.is_empty() => format!("column {position} may only be {}", absent.join(" or ")),
+            Some(column) => format!("column {position} must be {}", column.name),
+            None => format!("there must be no column {position}"),
+        }
     }
 
     fn twice(&self) -> Vec<String> {
@@ -78,10 +82,10 @@ impl Header<'_> {
         faults
     }
 
+    /// Where no column is missing, extra or twice.
     fn exchanged(&self) -> Vec<String> {
-        let differs =
-            |&place: &usize| self.has(place) && self.found.get(place) != Some(&self.columns[place].name);
+        let differs = |&place: &usize| self.found[place] != self.due[place].name;
         let say = |place| format!("columns are exchanged: {}", self.expected(place));
-        (0..self.columns.len()).filter(differs).map(say).collect()
+        (0..self.due.len()).filter(differs).map(say).collect()
     }
 }

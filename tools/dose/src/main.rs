@@ -7,6 +7,7 @@ mod check;
 mod columns;
 mod csv;
 mod due;
+mod edition;
 mod failure;
 mod header;
 mod kit;

@@ -14,8 +14,8 @@ use std::io::{self, Write};
 const BROUGHT: [&str; 2] = ["PRK brought", "GPK brought"];
 
 /// One line for each entry, or for each count of its range: answer in words, text, limits, basis, category, rule,
-/// high, low. A suppressed signal is said in the words, and so is what the HPK brought, or that it differs. A refused
-/// range has one line, and 131 has no other numbers.
+/// high, low. A suppressed signal is said in the words, and so is what the HPK brought, or that it differs, and an
+/// edition that there is not. A refused range has one line, and 131 has no other numbers.
 pub fn readable(out: &mut dyn Write, entries: &Sheet, lines: &[Line], limits: &Limits) -> io::Result<()> {
     let base_unit = entries.place(BASE_UNIT);
     for Line { due, answer } in lines {
@@ -38,7 +38,7 @@ fn sentence(due: &Due, answer: &Answer, limits: &str) -> String {
     format!(
         "{} {}; text {}; {limits}; basis {}; category {}; rule {}; high {}; low {}",
         answer.answer,
-        words::sentence(answer, &due.said),
+        words::sentence(answer, due.edition, &due.said),
         answer.text,
         answer.basis,
         answer.category,

@@ -59,6 +59,16 @@ impl Sheet {
     pub fn place(&self, name: &str) -> usize {
         self.columns.iter().position(|column| column.name == name).expect("a field of this file")
     }
+
+    /// Puts the number into the field of every row where it is blank.
+    pub fn fill(&mut self, name: &str, number: u64) {
+        let place = self.place(name);
+        for row in self.numbers.chunks_exact_mut(self.columns.len()) {
+            if row[place] == BLANK {
+                row[place] = number;
+            }
+        }
+    }
 }
 
 /// Whether the first column may be the name of the row.
@@ -76,7 +86,7 @@ pub fn read(path: &Path, columns: &'static [Column], names: Names) -> Result<She
         vec![Fault::of_line(&file, line, "is not UTF-8 text: save the file as CSV UTF-8".to_string())]
     })?;
     let sheet = Sheet::of_cells(columns, Vec::new());
-    let mut reader = Reader { file: &file, sheet, width: columns.len(), faults: Vec::new() };
+    let mut reader = Reader { file: &file, sheet, places: Vec::new(), faults: Vec::new() };
     reader.header(lines.first().unwrap_or(&""), names);
     if reader.faults.is_empty() {
         for (i, line) in lines.iter().enumerate().skip(1) {
@@ -93,8 +103,8 @@ pub fn read(path: &Path, columns: &'static [Column], names: Names) -> Result<She
 struct Reader<'a> {
     file: &'a str,
     sheet: Sheet,
-    /// How many of the columns stand in the file: the last may be absent.
-    width: usize,
+    /// For each column the place of its cell in a line; none if it is absent.
+    places: Vec<Option<usize>>,
     faults: Vec<Fault>,
 }
 
@@ -112,8 +122,10 @@ impl Reader<'_> {
         if self.sheet.is_named {
             found.remove(0);
         }
-        self.width = found.len();
-        let faults = header::faults(self.sheet.columns, &found, 1 + self.before());
+        let before = self.before();
+        let place = |column: &Column| found.iter().position(|name| *name == column.name);
+        self.places = self.sheet.columns.iter().map(|column| Some(place(column)? + before)).collect();
+        let faults = header::faults(self.sheet.columns, &found, 1 + before);
         self.faults.extend(faults.into_iter().map(|what| Fault::of_line(self.file, 1, what)));
     }
 
@@ -134,19 +146,17 @@ impl Reader<'_> {
             return self.faults.push(Fault::of_line(self.file, line, what));
         }
         let mut row_range = None;
-        for (place, cell) in cells.iter().enumerate().skip(self.before()) {
-            match number::read(cell, self.sheet.columns[place - self.before()].content) {
+        for (column, place) in self.sheet.columns.iter().zip(&self.places) {
+            let cell = place.map_or("", |place| cells[place].as_ref());
+            match number::read(cell, column.content) {
                 Ok(Value::Number(number)) => self.sheet.numbers.push(number),
                 // the program `counts` does not look at the entry's own count: the first stands in its place
                 Ok(Value::Range(range)) => {
                     self.sheet.numbers.push(range.first);
                     row_range = Some(range);
                 }
-                Err(what) => self.faults.push(Fault::of_field(self.file, line, &self.field(place), what)),
+                Err(what) => self.faults.push(Fault::of_field(self.file, line, column.name, what)),
             }
-        }
-        for _absent in self.width..self.sheet.columns.len() {
-            self.sheet.numbers.push(BLANK);
         }
         if self.sheet.is_named && cells[0].is_empty() {
             self.faults.push(Fault::of_field(self.file, line, NAME, "the cell is blank".to_string()));
@@ -160,14 +170,14 @@ impl Reader<'_> {
         if place < self.before() {
             return NAME.to_string();
         }
-        match self.sheet.columns[..self.width].get(place - self.before()) {
-            Some(column) => column.name.to_string(),
+        match self.places.iter().position(|&of_column| of_column == Some(place)) {
+            Some(column) => self.sheet.columns[column].name.to_string(),
             None => format!("column {}", place + 1),
         }
     }
 
     fn wrong_count(&self, cells: &[Cow<str>]) -> Option<String> {
-        let wanted = self.width + self.before();
+        let wanted = self.before() + self.places.iter().flatten().count();
         if cells.len() == wanted {
             return None;
         }

@@ -55,7 +55,7 @@ fn damaged_numbers_in_every_field() {
     let room = Room::new("damaged_numbers");
     for file in TABLES.into_iter().chain([ENTRIES]) {
         for place in usize::from(file == ENTRIES)..width(file) {
-            let is_months = file == ENTRIES && place == width(file) - 1;
+            let is_months = file == ENTRIES && place == MONTHS;
             let why = if is_months { "is neither on, off nor blank" } else { "`12x` is damaged" };
             cell_refused(&room, file, place, "12x", why);
         }
@@ -71,7 +71,7 @@ fn all_kinds_of_damage() {
         cell_refused(&room, "640.csv", 0, cell, "is damaged");
     }
     cell_refused(&room, "640.csv", 0, "1\r", "`1\\r` is damaged");
-    cell_refused(&room, ENTRIES, 20, "1", "`1` is neither on, off nor blank");
+    cell_refused(&room, ENTRIES, MONTHS, "1", "`1` is neither on, off nor blank");
 }
 
 #[test]
@@ -93,8 +93,10 @@ fn a_range_stands_in_count_alone() {
 fn numbers_that_do_not_fit() {
     let room = Room::new("numbers_that_do_not_fit");
     for file in TABLES.into_iter().chain([ENTRIES]) {
-        let numbers = if file == ENTRIES { 1..20 } else { 0..width(file) };
-        for place in numbers {
+        for place in usize::from(file == ENTRIES)..width(file) {
+            if file == ENTRIES && place == MONTHS {
+                continue;
+            }
             if file == "730.csv" && place == 2 {
                 cell_refused(&room, file, place, "18446744073709551616", "does not fit 64 bits");
                 continue;
@@ -127,7 +129,7 @@ const UNITS_AFTER: [u8; 4] = [0x2F, 0x01, 0, 0]; // 303
 
 /// A number of the first of the sample's 22 entries, which end the stream.
 fn entry_number(heard: &[u8], place: usize) -> [u8; 4] {
-    let start = heard.len() - 22 * 21 * 4 + place * 4;
+    let start = heard.len() - 22 * 22 * 4 + place * 4;
     heard[start..start + 4].try_into().unwrap()
 }
 
@@ -151,7 +153,8 @@ fn a_blank_cell() {
                     "{field}"
                 );
             }
-        } else {
+        } else if field != "edition" {
+            // an edition has a default (tests/edition_cells.rs)
             cell_refused(&room, ENTRIES, place, "", "the cell is blank");
         }
     }

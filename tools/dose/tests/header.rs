@@ -34,7 +34,7 @@ fn the_names_are_the_papers() {
             "SRTCDE,CODE,CDHOEV,CDEENH",
             "HPKODE,PRKODE,HPANPR,GPKODE,PRANGP,HPANGP",
             "name,GPK,PRK,HPK,age,sex,weight,surface,care group,reason,ICPCTO,route,count,time unit,\
-             lowest,highest,entered unit,base unit,SRTCDE,CODE,months",
+             lowest,highest,entered unit,base unit,SRTCDE,CODE,months,edition",
         ]
     );
 }
@@ -44,8 +44,8 @@ fn a_missing_column() {
     let room = Room::new("a_missing_column");
     for (file, names) in headers() {
         for place in 0..names.len() {
-            if names[place] == "name" {
-                continue; // it may be left out, with its cells
+            if ["name", "edition"].contains(&names[place].as_str()) {
+                continue; // they may be left out, with their cells
             }
             let mut header = names.clone();
             let name = header.remove(place);
@@ -69,9 +69,9 @@ fn an_extra_column() {
             }
             let mut header = names.clone();
             header.insert(place, "colour".to_string());
-            let said = match names.get(place) {
+            let said = match names.get(place).map(String::as_str) {
+                Some("edition") => format!("colour is extra: column {} may only be quiet", place + 1),
                 Some(name) => format!("colour is extra: column {} must be {name}", place + 1),
-                None if file == ENTRIES => format!("colour is extra: column {} may only be quiet", place + 1),
                 None => format!("colour is extra: there must be no column {}", place + 1),
             };
             refused(&room, file, &header, &[&said]);

@@ -19,7 +19,7 @@ const SEVERAL: &str = "123 0 70 0 0 0 0 0 0";
 /// K1 with these codes, as a line of the entries.
 fn k1_line(gpk: &str, prk: &str, hpk: &str) -> String {
     let header = sample(ENTRIES).lines().next().unwrap().to_string();
-    format!("{header}\nK1,{gpk},{prk},{hpk},240,,75000,,3,0,0,0,2,19,2000,2000,233,233,0,0,on\n")
+    format!("{header}\nK1,{gpk},{prk},{hpk},240,,75000,,3,0,0,0,2,19,2000,2000,233,233,0,0,on,2\n")
 }
 
 fn csv(rows: &[[u32; 6]]) -> String {
@@ -288,11 +288,11 @@ fn each_program_hears_its_entries() {
     }
     // The first entry of each: GPK 0, PRK blank, and the HPK.
     let [plain, ranged] = heard;
-    let first = (plain.len() - 18 * 84) / 4;
+    let first = (plain.len() - 18 * 88) / 4;
     assert_eq!([0, 1, 2].map(|place| number(&plain, first + place)), [0, BLANK, 216267]);
-    let first = (ranged.len() - 3 * 96) / 4;
+    let first = (ranged.len() - 3 * 100) / 4;
     assert_eq!([0, 1, 2].map(|place| number(&ranged, first + place)), [0, BLANK, 1709925]);
-    assert_eq!([21, 22, 23].map(|place| number(&ranged, first + place)), [1, 3, 16]);
+    assert_eq!([22, 23, 24].map(|place| number(&ranged, first + place)), [1, 3, 16]);
 }
 
 #[test]

@@ -19,7 +19,7 @@ fn a_setting_goes_out_as_it_is_written() {
     room.counts_says(&COMPARED.repeat(3));
     let entries = k1_with(&[("one count", "2"), ("two counts", "1-2"), ("range of one", "2-2")]);
     for (cell, number) in [("on", ON), ("off", OFF), ("", BLANK), ("  ", BLANK), ("\"\"", BLANK)] {
-        room.write(ENTRIES, entries.replace(",on\n", &format!(",{cell}\n")));
+        room.write(ENTRIES, entries.replace(",on,2\n", &format!(",{cell},2\n")));
         let ran = room.check(&[]);
         assert_eq!((ran.status, ran.complained.as_str()), (0, ""), "{cell}");
         let single = |count| k1_but(&[(COUNT, count), (MONTHS, number)]);
@@ -68,7 +68,7 @@ const RANGED: [([u32; 5], u32); 6] = [
 
 fn entry([gpk, count, unit, dose, months]: [u32; 5]) -> Vec<u32> {
     let patient = [BLANK, BLANK, 480, BLANK, BLANK, BLANK, 3, 0, 0, 0];
-    [&[gpk], &patient[..], &[count, unit, dose, dose, 245, 245, 0, 0, months, BLANK]].concat()
+    [&[gpk], &patient[..], &[count, unit, dose, dose, 245, 245, 0, 0, months, BLANK, 2]].concat()
 }
 
 fn bytes(entries: &[Vec<u32>]) -> Vec<u8> {

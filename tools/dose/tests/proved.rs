@@ -2,7 +2,7 @@
 //! DOSE_RECORD_CALLS name the programs, which `cargo test -- --include-ignored` then asks.
 
 mod common;
-use common::{hpk, months, quiet, ran, ranges, sample, Room, ENTRIES, SAMPLE};
+use common::{edition, hpk, months, quiet, ran, ranges, sample, Room, ENTRIES, SAMPLE};
 use std::process::Command;
 
 /// The front with these words and the programs that the variables name, each by its option.
@@ -60,6 +60,41 @@ fn quiet_on_a_missing_frequency() {
     let programs = [ANSWERS, COUNTS];
     assert_eq!(said(&["check", TABLES, &entries], &programs), quiet("expected.txt"));
     assert_eq!(said(&["check", TABLES, &entries, "--csv"], &programs), quiet("expected.csv"));
+}
+
+#[test]
+#[ignore = "needs the proved programs: set DOSE_ANSWERS and DOSE_COUNTS"]
+fn hosts_with_either_set_of_texts() {
+    let entries = format!("{SAMPLE}/edition/entries.csv");
+    let programs = [ANSWERS, COUNTS];
+    assert_eq!(said(&["check", TABLES, &entries], &programs), edition("expected.txt"));
+    assert_eq!(said(&["check", TABLES, &entries, "--csv"], &programs), edition("expected.csv"));
+}
+
+/// The other samples without their column edition: but for the signals of a missing frequency nothing differs.
+#[test]
+#[ignore = "needs the proved programs: set DOSE_ANSWERS and DOSE_COUNTS"]
+fn the_samples_in_edition_1() {
+    let cut = |line: &str| line.rsplit_once(',').unwrap().0.to_string() + "\n";
+    let signals =
+        [(",115,24,0,", ",117,8,0,"), (",116,25,0,", ",117,8,0,"), (",0,0,0,115\n", ",0,0,0,117\n")];
+    type Sample = fn(&str) -> String;
+    let samples: [(&str, Sample); 5] = [
+        ("proof-table", sample),
+        ("proof-table", ranges),
+        ("proof-table", quiet),
+        ("months", months),
+        ("hpk", hpk),
+    ];
+    for (tables, file) in samples {
+        let room = Room::new("the_samples_in_edition_1");
+        room.write(ENTRIES, file(ENTRIES).lines().map(cut).collect::<String>());
+        let (tables, entries) =
+            (format!("{SAMPLE}/{tables}"), room.folder.join(ENTRIES).display().to_string());
+        let said = said(&["check", &tables, &entries, "--csv", "--edition", "1"], &[ANSWERS, COUNTS]);
+        let replace = |expected: String, (one, other): (&str, &str)| expected.replace(one, other);
+        assert_eq!(said, signals.into_iter().fold(file("expected.csv"), replace));
+    }
 }
 
 #[test]

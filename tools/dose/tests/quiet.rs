@@ -3,7 +3,7 @@
 
 mod common;
 use common::proof_table::*;
-use common::{k1_with, program_line, quiet, sample, Room, ENTRIES};
+use common::{k1_ending, k1_with, program_line, quiet, sample, Room, ENTRIES};
 
 const OFF: u32 = 0;
 const COMPARED: &str = "100 0 0 1500 33784 1 0 0 0\n";
@@ -11,7 +11,7 @@ const SUPPRESSED: &str = "100 0 0 1500 33784 0 0 0 115\n";
 
 /// K1 under a name with this count and this cell in the column quiet, which the proof table's file has not.
 fn k1_quiet(counts: &[(&str, &str)], cell: &str) -> String {
-    k1_with(counts).replace(",months\n", ",months,quiet\n").replace(",on\n", &format!(",on,{cell}\n"))
+    k1_ending(counts, "months,quiet,edition", &format!("on,{cell},2"))
 }
 
 #[test]
@@ -37,9 +37,9 @@ fn a_file_without_the_column_gives_no_setting() {
     assert_eq!(room.check(&[]).status, 0);
     assert_eq!(room.heard().unwrap(), case(&[k1_but(&[(QUIET, BLANK)])]));
     // all lines have the cells of the header, or none
-    room.write(ENTRIES, k1_with(&[("K1", "2")]).replace(",on\n", ",on,on\n"));
-    room.refused(&["22 cells stand on this line and 21 in the header: nothing may stand after months"]);
-    room.write(ENTRIES, k1_quiet(&[("K1", "2")], "on").replace(",on,on\n", ",on\n"));
+    room.write(ENTRIES, k1_with(&[("K1", "2")]).replace(",on,2\n", ",on,on,2\n"));
+    room.refused(&["23 cells stand on this line and 22 in the header: nothing may stand after edition"]);
+    room.write(ENTRIES, k1_quiet(&[("K1", "2")], "on").replace(",on,on,2\n", ",on\n"));
     room.refused(&["it ends before quiet"]);
 }
 
@@ -50,14 +50,14 @@ fn a_damaged_setting_or_column() {
         room.write(ENTRIES, k1_quiet(&[("K1", "2")], cell));
         room.refused(&["entries.csv, line 2, quiet"]);
     }
-    let with = |header: &str| k1_quiet(&[("K1", "2")], "on").replace(",months,quiet\n", header);
-    room.write(ENTRIES, with(",months,quite\n"));
+    let with = |header: &str| k1_quiet(&[("K1", "2")], "on").replace(",months,quiet,edition\n", header);
+    room.write(ENTRIES, with(",months,quite,edition\n"));
     room.refused(&["quite is extra: column 22 may only be quiet"]);
-    room.write(ENTRIES, with(",quiet,months\n"));
+    room.write(ENTRIES, with(",quiet,months,edition\n"));
     room.refused(&["columns are exchanged: column 21 must be months, but quiet stands there"]);
-    room.write(ENTRIES, with(",months,quiet,quiet\n"));
+    room.write(ENTRIES, with(",months,quiet,quiet,edition\n"));
     room.refused(&["quiet is extra: it stands in column 22 and again in column 23"]);
-    room.write(ENTRIES, with(",quiet\n"));
+    room.write(ENTRIES, with(",quiet,edition\n"));
     room.refused(&["months is missing"]);
 }
 
@@ -175,10 +175,10 @@ fn a_machine_reads_numbers() {
     assert_eq!(ran.said, quiet("expected.csv"));
 }
 
-/// The files of the proof table are from before P4.
+/// The files of the proof table have no column quiet.
 #[test]
-fn the_column_is_the_last_one_and_may_be_absent() {
+fn the_column_stands_behind_months_and_may_be_absent() {
     let header = |entries: String| entries.lines().next().unwrap().to_string();
-    assert!(header(sample(ENTRIES)).ends_with(",CODE,months"));
-    assert_eq!(header(quiet(ENTRIES)), header(sample(ENTRIES)) + ",quiet");
+    assert!(header(sample(ENTRIES)).ends_with(",CODE,months,edition"));
+    assert_eq!(header(quiet(ENTRIES)), header(sample(ENTRIES)).replace(",edition", ",quiet,edition"));
 }

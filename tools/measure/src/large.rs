@@ -3,7 +3,7 @@
 
 use cases::generate::case::{push_numbers, Case, Numbers};
 use cases::random::Random;
-use second::check::entry::{BLANK, CARE, GPK, HPK, MONTHS_ON, PRK};
+use second::check::entry::{BLANK, CARE, EDITION_2, GPK, HPK, MONTHS_ON, PRK};
 use second::check::Table::{T640, T641, T642, T643, T649, T70, T730};
 
 const ROWS: u64 = 20_000;
@@ -111,6 +111,6 @@ fn entry(n: u32) -> Numbers {
     let highest = 1_997 + n % 4;
     [
         gpk, prk, hpk, age, BLANK, weight, BLANK, care, reason, 0, route, count, 19, 1_997, highest, 233, 234, 3, code,
-        MONTHS_ON, BLANK,
+        MONTHS_ON, BLANK, EDITION_2,
     ]
 }

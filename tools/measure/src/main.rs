@@ -15,7 +15,8 @@ use std::time::Instant;
 const HELP: &str = "measure case sorted|spread ENTRIES   the large case on standard output
 measure case sorted|spread ENTRIES FIELDS TABLES
                                      the same for a version whose entries have so many fields, with 21 quiet on,
-                                     and which has so many tables: 20 fields before P4, six tables before P5
+                                     with 22 edition 2 behind it, and which has so many tables: 20 fields before
+                                     P4, 21 before P7, six tables before P5
 measure refused sorted|spread ENTRIES FIELDS TABLES
                                      the same with entries that are all out of range (125)
 measure hpk sorted|spread ENTRIES    the same with quiet on, PRK and GPK filled by an HPK of a table 70 of 20,000 rows
@@ -71,11 +72,11 @@ fn large(order: &str, entries: u32) -> Case {
 
 fn for_version(case: Case, fields: &str, tables: &str) -> Vec<u8> {
     match (fields, tables) {
-        ("20" | "21", "6" | "7") => {
+        ("20" | "21" | "22", "6" | "7") => {
             let number = |word: &str| word.parse().expect("a number");
             large::bytes_for(&quiet::on(case), number(fields), number(tables))
         }
-        _ => panic!("{fields} fields and {tables} tables: 20 or 21, 6 or 7"),
+        _ => panic!("{fields} fields and {tables} tables: 20 to 22, 6 or 7"),
     }
 }
 

@@ -2,15 +2,21 @@
 
 use crate::random::Random;
 use second::check::cells::cell;
-use second::check::entry::{FIELDS, QUIET};
+use second::check::entry::{EDITION, EDITION_2, FIELDS, QUIET};
 use second::check::fields::CDHOEV;
 use second::check::{Table, TABLES};
 use second::stream::{numbers, parts, Header, ENTRY, HEADER};
 
 pub type Numbers = [u32; FIELDS];
 
-/// The fields that entries were made of before P4: quiet is put behind them.
+/// The fields that entries were made of before P4: quiet is put behind them, and behind it the edition.
 pub const MADE_FIELDS: usize = QUIET;
+/// What an entry is made from: by P7 those of the proof table, and all that were there before, say edition 2.
+pub const NO_ENTRY: Numbers = {
+    let mut numbers = [0; FIELDS];
+    numbers[EDITION] = EDITION_2;
+    numbers
+};
 /// The tables that cases were made of before P5: table 70 is put behind them.
 pub const MADE_TABLES: [Table; 6] = [Table::T640, Table::T641, Table::T642, Table::T643, Table::T649, Table::T730];
 

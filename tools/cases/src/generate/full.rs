@@ -10,6 +10,8 @@ use second::check::Table::*;
 
 /// Three categories, each in three places.
 pub const VARIANTS: usize = 9;
+/// One that has a row too many.
+pub const TOO_LONG: usize = 2;
 /// GPK, basis, category and rule; no other row of a case has it.
 pub const KEY: u64 = 5_000_000;
 /// Rows of other categories put among the category's.

@@ -6,6 +6,7 @@ pub mod case;
 pub mod chains;
 pub mod counts;
 mod directed;
+pub mod edition;
 pub mod full;
 mod heavy;
 pub mod hpk;
@@ -39,8 +40,19 @@ pub const FULL_CASES: std::ops::Range<u64> =
     heavy::VARIANTS as u64 + 1..heavy::VARIANTS as u64 + 1 + full::VARIANTS as u64;
 
 /// Case `number` of the run: K1 to K15 first, long tables next, then directed and plain cases in turn, the first of
-/// them with a full category besides; their rows as they were made, or in the order of their keys.
+/// them with a full category besides; their rows as they were made, or in the order of their keys; each entry with an
+/// edition.
 pub fn case(seed: u64, number: u64) -> Case {
+    let mut case = before_p7(seed, number);
+    add_editions(&mut case, seed, number);
+    if FULL_CASES.contains(&(number % ROUND)) {
+        edition::over_full(&mut case);
+    }
+    case
+}
+
+/// Before entries had an edition: all say 2, as K1 to K15 and the entries of long tables still do.
+fn before_p7(seed: u64, number: u64) -> Case {
     let mut case = fitted(made(seed, number), seed, number);
     match number % ROUND {
         0 => {}
@@ -59,7 +71,15 @@ pub fn case(seed: u64, number: u64) -> Case {
 pub fn light_case(seed: u64, number: u64) -> Case {
     let mut case = fitted(light_made(seed, number), seed, number);
     put_in_order(&mut case, &mut ordering(seed, number));
+    add_editions(&mut case, seed, number);
     case
+}
+
+/// From random numbers of their own, so that all else of the case stays.
+fn add_editions(case: &mut Case, seed: u64, number: u64) {
+    if number % ROUND > *LONG_CASES.end() {
+        edition::add(case, &mut Random::of_case(seed ^ 0x6564_6974, number));
+    }
 }
 
 /// The cases were made for rows that fit at both ends. In half of them the high ends that the first entry lies on are
@@ -157,6 +177,7 @@ fn light(r: &mut Random, number: u64) -> Case {
 mod tests {
     use super::*;
     use crate::run::answers_of;
+    use second::check::entry::{EDITION, EDITION_2};
     use second::check::{check, Entry, Lent, NUMBERS};
     use second::stream::{parts, Header, HEADER};
 
@@ -183,13 +204,34 @@ mod tests {
     fn the_order_of_rows_changes_no_answer() {
         let mut ordered = 0;
         for number in 0..3_000 {
-            let (made, case) = (fitted(made(8, number), 8, number), case(8, number));
+            let (made, case) = (fitted(made(8, number), 8, number), before_p7(8, number));
             let lines = numbers(&made);
             assert_eq!(numbers(&case)[..lines.len()], lines, "case {number}");
             ordered += (made.bytes() != case.bytes()) as u64;
         }
         // Half of them, and those that get more keys.
         assert!((1_400..1_800).contains(&ordered), "{ordered}");
+    }
+
+    /// P7 puts an edition into each entry, and entries behind them; all else stays.
+    #[test]
+    fn editions_are_put_on_top() {
+        let mut all = [0; 2];
+        for number in 0..3_000 {
+            let (before, mut case) = (before_p7(8, number), case(8, number));
+            let there = before.entries.len();
+            let mut seen = vec![];
+            for entry in &mut case.entries {
+                seen.push(std::mem::replace(&mut entry[EDITION], EDITION_2));
+            }
+            assert!(case.entries[there..].iter().all(|entry| before.entries.contains(entry)), "case {number}");
+            case.entries.truncate(there);
+            assert!(case.bytes() == before.bytes(), "case {number}");
+            edition::EDITIONS.iter().zip(&mut all).for_each(|(edition, all)| {
+                *all += seen.iter().filter(|seen| *seen == edition).count();
+            });
+        }
+        assert!(all[0] > 10_000 && all[0].abs_diff(all[1]) < 1_000, "{all:?}");
     }
 
     /// By steps 7 and 11 of document 01.
@@ -203,7 +245,7 @@ mod tests {
         ];
         for seed in 0..20 {
             for number in FULL_CASES {
-                let answers = numbers(&case(seed, number));
+                let answers = numbers(&before_p7(seed, number));
                 assert_eq!(
                     answers.last(),
                     Some(&expected[(number - FULL_CASES.start) as usize % 3]),

@@ -1,7 +1,7 @@
 //! A case that is compared (100): the chain of rows that its entry finds stands first in each table
 //! (in 730 the base unit's row, then the entered unit's), rows that it must pass over behind them.
 
-use super::case::{Case, Numbers};
+use super::case::{Case, Numbers, NO_ENTRY};
 use super::space::{self, NO_UPPER, Q_GENERAL};
 use crate::random::Random;
 use second::check::entry::*;
@@ -21,7 +21,7 @@ pub fn model(r: &mut Random) -> Case {
 }
 
 fn patient(r: &mut Random) -> Numbers {
-    let mut entry = [0; FIELDS];
+    let mut entry = NO_ENTRY;
     entry[GPK] = space::gpk(r) as u32;
     for place in [PRK, HPK] {
         entry[place] = if r.percent(50) { BLANK } else { space::product(r) as u32 };

@@ -1,6 +1,6 @@
 //! Random cases over small dense spaces: mostly one row for each need, sometimes none or several.
 
-use super::case::{Case, Numbers};
+use super::case::{Case, Numbers, NO_ENTRY};
 use super::space::{self, NO_UPPER, Q_GENERAL};
 use super::vary;
 use crate::random::Random;
@@ -142,7 +142,7 @@ fn units(case: &mut Case, r: &mut Random, noise: u64) {
 fn entry(r: &mut Random, case: &Case) -> Numbers {
     let blank = r.pick(&[5, 15, 40]);
     let or_blank = |r: &mut Random, number: u64| if r.percent(blank) { BLANK } else { number as u32 };
-    let mut entry = [0; FIELDS];
+    let mut entry = NO_ENTRY;
     entry[GPK] = if r.percent(98) { space::gpk(r) as u32 } else { r.pick(&[0, 4]) };
     for place in [PRK, HPK] {
         let code = space::product(r);

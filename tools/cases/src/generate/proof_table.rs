@@ -1,7 +1,7 @@
 //! Document 01's proof table, with K1 to K15 and the answers it gives, as document 02, P1, changes them. By P3 they say
-//! months on. Behind them the examples of P4 and of P5.
+//! months on, by P7 edition 2. Behind them the examples of P4 and of P5.
 
-use super::case::{Case, Numbers};
+use super::case::{Case, Numbers, NO_ENTRY};
 use second::check::entry::*;
 use second::check::{Table, NUMBERS};
 
@@ -30,7 +30,7 @@ pub fn tables() -> Case {
 }
 
 pub fn k1() -> Numbers {
-    let mut entry = [0; FIELDS];
+    let mut entry = NO_ENTRY;
     for blank in [PRK, HPK, SEX, SURFACE, QUIET] {
         entry[blank] = BLANK;
     }
@@ -163,6 +163,13 @@ pub fn with_months(setting: u32) -> Case {
 pub fn with_quiet(setting: u32) -> Case {
     let mut case = k_case();
     case.entries.iter_mut().for_each(|entry| entry[QUIET] = setting);
+    case
+}
+
+/// The same in an edition (P7).
+pub fn with_edition(edition: u32) -> Case {
+    let mut case = k_case();
+    case.entries.iter_mut().for_each(|entry| entry[EDITION] = edition);
     case
 }
 

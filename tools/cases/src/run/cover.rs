@@ -1,6 +1,7 @@
 //! How often each test gave its answer, and each step went each of its ways.
 
 use super::answers_of;
+use super::edition::{self, editions, Edition};
 use super::exchange::{self, exchange, Exchange};
 use super::hpk::{self, brought, Brought};
 use super::lies::{lies, Lies};
@@ -84,6 +85,7 @@ pub enum Seen {
     Missing(Missing),
     /// What came of the HPK.
     Brought(Brought),
+    Edition(Edition),
     /// A table that was searched, of three rows or more, in which a key has several.
     Order(Table, Order),
     /// A key looked for in a table of three rows or more.
@@ -108,6 +110,7 @@ impl Coverage {
             let missing = missing(case, answer, entry).into_iter().map(Seen::Missing);
             let more = searches(answer, entry, &orders).into_iter().chain(lies).chain(exchange.map(Seen::Exchange));
             let more = more.chain(missing).chain(brought(case, answer, entry).into_iter().map(Seen::Brought));
+            let more = more.chain(editions(case, answer, entry).into_iter().map(Seen::Edition));
             for seen in seen(answer, entry).into_iter().chain(more) {
                 *self.counts.entry(seen).or_default() += 1;
             }
@@ -252,6 +255,7 @@ pub fn required() -> Vec<Seen> {
     all.extend(exchange::required(MONTHS_NOT_GIVEN).into_iter().map(Seen::Exchange));
     all.extend(quiet::required().into_iter().map(Seen::Missing));
     all.extend(hpk::required().into_iter().map(Seen::Brought));
+    all.extend(edition::required().into_iter().map(Seen::Edition));
     for table in Table::ALL {
         all.extend(Order::ALL.map(|order| Seen::Order(table, order)));
         for falls in [Falls::Never, Falls::Once, Falls::Often] {

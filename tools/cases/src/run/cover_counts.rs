@@ -2,12 +2,13 @@
 
 use super::answers_of;
 use super::cover::tests;
+use super::edition::{self, editions, Edition};
 use super::exchange::{self, exchange, Came, Exchange};
 use crate::generate::case::{Case, Numbers};
 use crate::generate::counts::{at_count, CountCase, Range};
 use crate::generate::months::{Setting, MONTH_TWINS};
 use second::check::counts::{COUNTS_MOST, NO_RANGE, TOO_SHORT};
-use second::check::entry::{COUNT, COUNT_MOST};
+use second::check::entry::{COUNT, COUNT_MOST, EDITION};
 use second::check::{Answer, Code, Filling, Test};
 use second::stream::counts::PLACES_MOST;
 use std::collections::BTreeMap;
@@ -79,6 +80,10 @@ pub enum Seen {
     Suppressed(Own),
     /// What came of the HPK, at a place.
     Filling(Filling),
+    /// At a place.
+    Edition(Edition),
+    /// 131 or 132 where the check would give 125 for the edition.
+    BeforeEdition(u32),
     /// Rows of the unit beside the entered one, at a place, by the months setting.
     Exchange(Exchange),
     /// Months not given, and a twin that needs them on at the first place, between others, at the last.
@@ -160,8 +165,10 @@ fn refused(number: u32, seen: Seen, case: &Case, entry: &Numbers, range: &Range)
     if number == NO_RANGE && (range.places as u64) < range.counts() {
         all.push(Seen::Before(NO_RANGE, TOO_SHORT));
     }
-    let answer = answers_of(&with_counts(case, entry, [1].into_iter()))[0].numbers[0];
+    let Answer { numbers: [answer, ..], test, .. } = answers_of(&with_counts(case, entry, [1].into_iter()))[0];
     all.extend((answer == 121 || answer == 122 || answer == 125).then_some(Seen::Before(number, answer)));
+    let by_edition = matches!(test, Test::Entry(place, _) if place as usize == EDITION);
+    all.extend(by_edition.then_some(Seen::BeforeEdition(number)));
     all
 }
 
@@ -190,6 +197,8 @@ fn answered(case: &Case, entry: &Numbers, range: &Range) -> Vec<Seen> {
     all.extend(compared.map(|(_, count)| Seen::Compared(own(count, range))));
     let suppressed = answers.iter().zip(first..).filter(|(answer, _)| answer.test == Test::Suppressed && first < last);
     all.extend(suppressed.map(|(_, count)| Seen::Suppressed(own(count, range))));
+    let editions = answers.iter().zip(&single.entries).flat_map(|(answer, entry)| editions(&single, answer, entry));
+    all.extend(editions.map(Seen::Edition));
     all.extend(Setting::of(entry).into_iter().flat_map(|setting| exchanges(&single, &answers, setting, range)));
     all
 }
@@ -238,6 +247,8 @@ pub fn required() -> Vec<Seen> {
     all.extend(tests().into_iter().map(Seen::Test));
     all.extend([Filling::HpkBlank, Filling::NoRow, Filling::Nothing].map(Seen::Filling));
     all.extend([Code::Prk, Code::Gpk, Code::Both].map(|code| Seen::Filling(Filling::Some(code))));
+    all.extend(edition::required().into_iter().filter(Edition::is_of_one_entry).map(Seen::Edition));
+    all.extend([NO_RANGE, TOO_SHORT].map(Seen::BeforeEdition));
     all.extend(exchange::required(MONTHS_NOT_GIVEN).into_iter().map(Seen::Exchange));
     all.extend([Own::First, Own::Among, Own::Last].map(Seen::MonthTwin));
     all

@@ -1,12 +1,14 @@
-//! Demand 3 by brute force over another program: blanks filled, rows in another order.
+//! Demand 3 by brute force over another program: blanks filled, rows in another order. And P7: each entry in both
+//! editions.
 
 use super::difference::{difference, Report};
+use super::edition::in_edition_1;
 use super::fillings::{filling, By, Fillable, Filled, Filling, DATA, OF_HPK};
 use super::smallest::{compared, Outcome, Piece};
 use super::{answers_of, program, show};
 use crate::generate::case::{Case, Numbers};
 use crate::generate::counts::CountCase;
-use second::check::entry::{BLANK, RANGES, SURFACE, WEIGHT};
+use second::check::entry::{BLANK, EDITION, EDITION_1, RANGES, SURFACE, WEIGHT};
 use second::check::Test;
 use std::ops::Range;
 
@@ -51,6 +53,9 @@ pub struct Judged {
     pub fillings_of_other_blanks: u64,
     /// Entries after P5's filling, where it filled something: answered as they were before it.
     pub filled_by_hpk: u64,
+    /// Entries in both editions; those among them that the editions answer differently.
+    pub in_both_editions: u64,
+    pub editions_differ: u64,
     pub reordered: u64,
 }
 
@@ -129,6 +134,11 @@ fn judge<P>(filling: &Filling<P>, lines: &[String], reordered: &[String], judged
         let result = match filling.filled[place] {
             None => question_names_a_blank(&lines[place], &filling.after[place], judged),
             Some(Filled { of, by: By::Hpk }) => judge_filled_by_hpk(&lines[of], &lines[place], judged),
+            Some(Filled { of, by: By::Edition }) => {
+                let is_former = filling.sent_entries[of][EDITION] == EDITION_1;
+                let (former, now) = if is_former { (of, place) } else { (place, of) };
+                judge_editions(&lines[former], &lines[now], judged)
+            }
             Some(Filled { of, by: By::Datum(datum) }) => {
                 let later = places[place] > places[of];
                 let asked = [(WEIGHT, Test::QuietWeightMissing), (SURFACE, Test::QuietSurfaceMissing)];
@@ -148,6 +158,16 @@ fn judge_filled_by_hpk(before: &str, line: &str, judged: &mut Judged) -> Result<
     match line == before {
         true => Ok(()),
         false => Err("what the HPK fills changes the answer once it is given".to_string()),
+    }
+}
+
+/// P7: `former` and `now` answer one entry in editions 1 and 2.
+fn judge_editions(former: &str, now: &str, judged: &mut Judged) -> Result<(), String> {
+    judged.in_both_editions += 1;
+    judged.editions_differ += (former != now) as u64;
+    match former == in_edition_1(now) {
+        true => Ok(()),
+        false => Err("the editions differ otherwise than P7 says".to_string()),
     }
 }
 

@@ -22,13 +22,19 @@ pub fn streams() -> Vec<Edge> {
         ("no rows and no entries".to_string(), vec![0; HEADER], String::new()),
         ("two cases".to_string(), [&whole[..], &whole].concat(), ANSWER.repeat(2)),
     ];
-    for end in [1, HEADER - 1, HEADER, HEADER + 1, whole.len() - ENTRY, whole.len() - 1] {
+    for end in cuts(whole.len()) {
         all.push((format!("cut after {end} bytes"), whole[..end].to_vec(), BROKEN.to_string()));
         let behind = [&whole[..], &whole[..end]].concat();
         all.push((format!("cut {end} bytes into the second case"), behind, ANSWER.to_string() + BROKEN));
     }
     all.extend(sizes(&case, &whole));
     all
+}
+
+/// In the front, before and behind it; before the entry; and inside, before and behind each of its last two numbers.
+fn cuts(whole: usize) -> impl Iterator<Item = usize> {
+    let back = [ENTRY, 9, 8, 7, 5, 4, 3, 1];
+    [1, HEADER - 1, HEADER, HEADER + 1].into_iter().chain(back.map(|left| whole - left))
 }
 
 /// The 4 MiB count the header, all tables and the entries.
@@ -55,10 +61,10 @@ fn sizes(case: &Case, whole: &[u8]) -> Vec<Edge> {
         header[4 * place..4 * place + 4].fill(255);
         all.push((format!("greatest number at place {place} of the header"), header, BROKEN.to_string()));
     }
-    // 51,130,564 entries of 84 bytes are 2^32 + 80 bytes: short where the size is reckoned in 32 bits.
+    // 48,806,447 entries of 88 bytes are 2^32 + 40 bytes: short where the size is reckoned in 32 bits.
     let mut header = [0; HEADER];
-    header[HEADER - 4..].copy_from_slice(&51_130_564u32.to_le_bytes());
-    all.push(("entries of more than 4 GiB".to_string(), [&header[..], &[0; 80]].concat(), BROKEN.to_string()));
+    header[HEADER - 4..].copy_from_slice(&48_806_447u32.to_le_bytes());
+    all.push(("entries of more than 4 GiB".to_string(), [&header[..], &[0; 40]].concat(), BROKEN.to_string()));
     all
 }
 

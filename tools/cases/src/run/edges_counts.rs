@@ -50,11 +50,12 @@ pub fn streams() -> Vec<Edge> {
     all
 }
 
-/// Cut in the front, before, inside and behind the entry, and inside and behind each of its last three numbers.
+/// Cut in the front, before, inside and behind the entry's 22 numbers; inside and behind each of the last two of them and
+/// of the three that follow.
 fn cuts(whole: &[u8]) -> Vec<Edge> {
     let front = [1, HEADER - 1, HEADER, HEADER + 1];
-    let back = [ENTRY_AND_RANGE, ENTRY_AND_RANGE - 1, 13, 12, 11, 9, 8, 7, 5, 4, 3, 1].map(|left| whole.len() - left);
-    let ends = front.into_iter().chain(back);
+    let back = [ENTRY_AND_RANGE, ENTRY_AND_RANGE - 1, 21, 20, 19, 17, 16, 15, 13, 12, 11, 9, 8, 7, 5, 4, 3, 1];
+    let ends = front.into_iter().chain(back.map(|left| whole.len() - left));
     let of = |end: usize| {
         [
             edge(&format!("cut after {end} bytes"), &[&whole[..end]], &[BROKEN]),
@@ -114,9 +115,9 @@ fn sizes(whole: &[u8]) -> Vec<Edge> {
         header[4 * place..4 * place + 4].fill(255);
         all.push(edge(&format!("greatest number at place {place} of the header"), &[&header], &[BROKEN]));
     }
-    // 44,739,243 entries of 96 bytes are 2^32 + 32 bytes: short where the size is reckoned in 32 bits.
+    // 42,949,673 entries of 100 bytes are 2^32 + 4 bytes: short where the size is reckoned in 32 bits.
     let mut header = [0; HEADER];
-    header[HEADER - 4..].copy_from_slice(&44_739_243u32.to_le_bytes());
-    all.push(edge("entries of more than 4 GiB", &[&header, &[0; 32]], &[BROKEN]));
+    header[HEADER - 4..].copy_from_slice(&42_949_673u32.to_le_bytes());
+    all.push(edge("entries of more than 4 GiB", &[&header, &[0; 4]], &[BROKEN]));
     all
 }

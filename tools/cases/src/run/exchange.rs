@@ -48,7 +48,8 @@ pub fn exchange(case: &Case, answer: &Answer, entry: &Numbers, setting: Setting)
     let came = match answer.ways.time {
         Time::Exact => Came::Exact,
         Time::Twin(_) => Came::Twin,
-        Time::NotReached => Came::Signal(answer.numbers[0]),
+        // Whatever edition gives it.
+        Time::NotReached => Came::Signal(answer.test.answer()),
     };
     Some(Exchange { unit, setting, rows, came })
 }

@@ -6,6 +6,7 @@ use super::smallest::Piece;
 use crate::generate;
 use crate::generate::case::{Case, Numbers};
 use crate::generate::counts::{at_count, with_count, CountCase, Range};
+use crate::generate::edition;
 use crate::random::Random;
 use second::check::entry::*;
 
@@ -30,10 +31,12 @@ pub enum By {
     Hpk,
     /// One datum, or a setting with what it means where it is not given.
     Datum(usize),
+    /// Nothing: it is in the other edition (P7).
+    Edition,
 }
 
-/// A case with its entries, each followed by itself after P5's filling and then with each blank filled, and how they
-/// hang together.
+/// A case with its entries, each followed by itself in the other edition, after P5's filling and then with each blank
+/// filled, and how they hang together.
 pub struct Filling<P> {
     pub number: u64,
     /// What the program is sent: the case, then the case with its rows in another order.
@@ -133,10 +136,14 @@ pub fn filling<P: Fillable>(seed: u64, number: u64) -> Filling<P> {
         let mut of = case.entries.len();
         case.entries.push(entry);
         filled.push(None);
+        if let Some(other) = edition::other(entry[EDITION]) {
+            case.entries.push(edition::with_edition(entry, other));
+            filled.push(Some(Filled { of, by: By::Edition }));
+        }
         if after != entry {
             case.entries.push(after);
             filled.push(Some(Filled { of, by: By::Hpk }));
-            of += 1;
+            of = case.entries.len() - 1;
         }
         for (datum, value) in given(&after, P::MONTHS_NOT_GIVEN, r, &case) {
             let mut given = after;

@@ -10,6 +10,7 @@ pub mod difference;
 pub mod edges;
 pub mod edges_calls;
 pub mod edges_counts;
+pub mod edition;
 pub mod exchange;
 pub mod fillings;
 pub mod hpk;

@@ -4,14 +4,14 @@ use super::compare::input;
 use super::smallest::unit_file::UnitFile;
 use super::{answers_of_bytes, edges};
 use crate::generate::calls::{call_case_070, made_call_case, stream as stream_of, CallCase};
-use crate::generate::case::{Case, MADE_TABLES};
+use crate::generate::case::{Case, MADE_FIELDS, MADE_TABLES};
 use crate::generate::joints::{self, Bounded};
 use crate::generate::order::Order;
 use crate::generate::records::{good, text_070};
-use crate::generate::{self, chains, full, hpk, months, proof_table, quiet, FULL_640, TOO_LONG_640};
+use crate::generate::{self, chains, edition, full, hpk, months, proof_table, quiet, FULL_640, TOO_LONG_640};
 use crate::random::Random;
 use quiet::One::{LimitsAbsent, NormMinimum, Suppresses};
-use second::check::entry::{BLANK, MONTHS, MONTHS_OFF, QUIET_OFF, QUIET_ON};
+use second::check::entry::{BLANK, EDITION, EDITION_1, FIELDS, MONTHS, MONTHS_OFF, QUIET_OFF, QUIET_ON};
 use second::check::Table;
 use second::record::calls::{calls as call_lines, Call, File, Record, BYTES_MOST};
 use second::record::f070::Link;
@@ -25,8 +25,6 @@ pub const SEED: u64 = 730;
 pub const CASES: usize = 3_500;
 /// Rows of the longest table of those whose keys are looked for one by one.
 const LENGTHS: u64 = 6;
-/// The variant of `full` that has one row too many.
-const TOO_LONG_CATEGORY: usize = 2;
 /// Numbers of cases, and of cases of calls, that showed something new of SEED's first 12,000, in the coverage or by
 /// telling a wrong version that none before told.
 const CHOSEN_CASES: &str = include_str!("../../stored/cases");
@@ -40,8 +38,15 @@ const CHOSEN_HPK: &str = include_str!("../../stored/hpk");
 const FILLING_BYTES: usize = 1_000;
 const UNIT_FILES: u64 = 400;
 
-/// Those of P5 behind those before it, which keep their answers.
+/// Those of P7 behind those before it, which keep their answers.
 pub fn cases() -> Vec<Case> {
+    let mut cases = cases_before_p7();
+    cases.extend(p7_cases());
+    cases
+}
+
+/// Those of P5 behind those before it, which keep their answers. All of them say edition 2.
+pub fn cases_before_p7() -> Vec<Case> {
     let mut cases = cases_before_p5();
     cases.extend(p5_cases());
     cases
@@ -85,9 +90,10 @@ fn first_cases() -> Vec<Case> {
     cases
 }
 
-/// Those that fill up were chosen by their length before entries had a quiet setting, and before there was table 70.
+/// Those that fill up were chosen by their length before entries had a quiet setting and an edition, and before there
+/// was table 70.
 pub(super) fn bytes_before_p4(case: &Case) -> usize {
-    case.bytes().len() - size_of::<u32>() * (case.entries.len() + 1)
+    case.bytes().len() - size_of::<u32>() * ((FIELDS - MADE_FIELDS) * case.entries.len() + 1)
 }
 
 pub(super) fn numbers(list: &str) -> Vec<u64> {
@@ -164,10 +170,21 @@ pub fn p5_cases() -> Vec<Case> {
     cases.extend((0..3).map(|several| chains::search(Table::T70, Order::Rises, several)));
     cases.extend(Order::ALL[1..].iter().map(|order| chains::search(Table::T70, *order, 1)));
     cases.extend((1..=LENGTHS).map(chains::hpk_length));
-    let mut long = full::full(TOO_LONG_CATEGORY, &mut Random::of_case(SEED, 0));
+    let mut long = full::full(full::TOO_LONG, &mut Random::of_case(SEED, 0));
     hpk::over_full(&mut long);
     cases.push(long);
     cases.extend(numbers(CHOSEN_HPK).into_iter().map(|number| hpk::made(SEED, number)));
+    cases
+}
+
+/// The proof table in edition 1, and P4's examples over it; each answer in each edition and in none, also over tables
+/// that are refused and a category of 513 rows.
+pub fn p7_cases() -> Vec<Case> {
+    let mut quiet = proof_table::with(&proof_table::QUIET_K);
+    quiet.entries.iter_mut().for_each(|entry| entry[EDITION] = EDITION_1);
+    let mut cases = vec![proof_table::with_edition(EDITION_1), quiet, edition::each()];
+    cases.extend(edition::bad_tables());
+    cases.push(edition::too_long(SEED));
     cases
 }
 

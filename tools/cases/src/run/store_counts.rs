@@ -3,9 +3,9 @@
 use super::smallest::Piece;
 use super::store::{bytes_before_p4, numbers, write, SEED};
 use crate::generate::counts::{made_count_case, CountCase, Range};
-use crate::generate::{full, hpk, months, proof_ranges, quiet};
+use crate::generate::{edition, full, hpk, months, proof_ranges, quiet};
 use crate::random::Random;
-use second::check::entry::{BLANK, MONTHS_OFF, QUIET_OFF, QUIET_ON};
+use second::check::entry::{BLANK, EDITION_1, MONTHS_OFF, QUIET_OFF, QUIET_ON};
 use second::stream::counts::PLACES_MOST;
 use second::stream::BROKEN;
 use std::{io, path::Path};
@@ -18,8 +18,15 @@ pub const CASES: usize = 230;
 const FILLING_RANGES: usize = 5;
 const FILLING_BYTES: usize = 2_000;
 
-/// Those of P5 behind those before it, which keep their answers.
+/// Those of P7 behind those before it, which keep their answers.
 pub fn cases() -> Vec<CountCase> {
+    let mut cases = cases_before_p7();
+    cases.extend(p7_cases());
+    cases
+}
+
+/// Those of P5 behind those before it, which keep their answers. All of them say edition 2.
+pub fn cases_before_p7() -> Vec<CountCase> {
     let mut cases = cases_before_p5();
     cases.extend(p5_cases());
     cases
@@ -81,6 +88,14 @@ pub fn p4_cases() -> Vec<CountCase> {
 pub fn p5_cases() -> Vec<CountCase> {
     let mut cases = vec![proof_ranges::k_1_to_3_with_table_70(), proof_ranges::hpk_1_to_3(), hpk::ranges()];
     cases.extend(hpk::Bad::ALL.map(hpk::bad_ranges));
+    cases
+}
+
+/// The proof table for 1, 2 and 3 in edition 1, P4's examples over it for 1 to 4; what is asked for a range, in each
+/// edition and in none.
+pub fn p7_cases() -> Vec<CountCase> {
+    let mut cases = vec![edition::k_1_to_3(EDITION_1), edition::quiet_1_to_4(EDITION_1)];
+    cases.extend(edition::ranges(SEED));
     cases
 }
 

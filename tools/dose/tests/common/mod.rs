@@ -151,18 +151,29 @@ pub fn quiet(file: &str) -> String {
     fs::read_to_string(Path::new(SAMPLE).join("quiet").join(file)).unwrap()
 }
 
+/// A file of the sample with both editions.
+pub fn edition(file: &str) -> String {
+    fs::read_to_string(Path::new(SAMPLE).join("edition").join(file)).unwrap()
+}
+
 /// A file of the sample with HPKs.
 pub fn hpk(file: &str) -> String {
     fs::read_to_string(Path::new(SAMPLE).join("hpk").join(file)).unwrap()
 }
 
-/// The header of the entries, then K1 under each of these names with this count.
+/// The header of the proof table's entries, then K1 under each of these names with this count.
 pub fn k1_with(counts: &[(&str, &str)]) -> String {
     let entry = |(name, count): &(&str, &str)| {
-        format!("{name},103136,,,240,,75000,,3,0,0,0,{count},19,2000,2000,233,233,0,0,on\n")
+        format!("{name},103136,,,240,,75000,,3,0,0,0,{count},19,2000,2000,233,233,0,0,on,2\n")
     };
     let header = sample(ENTRIES).lines().next().unwrap().to_string();
     format!("{header}\n{}", counts.iter().map(entry).collect::<String>())
+}
+
+/// K1 with these counts, these columns behind CODE and these cells in them.
+pub fn k1_ending(counts: &[(&str, &str)], columns: &str, cells: &str) -> String {
+    let with_columns = k1_with(counts).replace(",months,edition\n", &format!(",{columns}\n"));
+    with_columns.replace(",on,2\n", &format!(",{cells}\n"))
 }
 
 /// expected.csv, written from document 01, as the lines of the program `answers`.

@@ -35,10 +35,12 @@ pub const LOWEST: usize = 13;
 pub const HIGHEST: usize = 14;
 pub const MONTHS: usize = 19;
 pub const QUIET: usize = 20;
+pub const EDITION: usize = 21;
 
-/// With months on, as P3 has all cases of the proof table, and without a quiet setting.
-pub const K1: [u32; 21] = [
+/// With months on, as P3 has all cases of the proof table, without a quiet setting, and in edition 2, as P7 has them.
+pub const K1: [u32; 22] = [
     103136, BLANK, BLANK, 240, BLANK, 75000, BLANK, 3, 0, 0, 0, 2, 19, 2000, 2000, 233, 233, 0, 0, ON, BLANK,
+    2,
 ];
 
 /// K1 with these numbers changed.

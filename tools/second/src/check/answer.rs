@@ -4,6 +4,10 @@ use super::{text, Compared, Filled, Test, Ways};
 
 /// Numbers of an answer.
 pub const NUMBERS: usize = 9;
+/// Places of some of them.
+pub const ANSWER: usize = 0;
+pub const TEXT: usize = 1;
+pub const SUPPRESSED: usize = 8;
 
 /// What the steps have chosen so far; a number not reached is 0.
 #[derive(Clone, Copy, Default)]

@@ -2,7 +2,7 @@
 
 use super::test::{Side, Test};
 
-pub const FIELDS: usize = 21;
+pub const FIELDS: usize = 22;
 
 /// Blank, or not given, in the stream.
 pub const BLANK: u32 = u32::MAX;
@@ -19,11 +19,14 @@ pub const MONTHS_OFF: u32 = 0;
 pub const MONTHS_ON: u32 = 1;
 pub const QUIET_OFF: u32 = 0;
 pub const QUIET_ON: u32 = 1;
+/// Of a host that has text 8 alone for a missing frequency, and of one that has 24 and 25 beside it.
+pub const EDITION_1: u32 = 1;
+pub const EDITION_2: u32 = 2;
 
 /// A field: its name, lowest and highest permitted number.
 type Field = (&'static str, u32, u32);
 
-/// Document 01's order, then P4's setting.
+/// Document 01's order, then P4's setting, then P7's edition.
 pub const RANGES: [Field; FIELDS] = [
     ("GPK", 0, CODE_MOST),
     ("PRK", 1, CODE_MOST),
@@ -46,6 +49,7 @@ pub const RANGES: [Field; FIELDS] = [
     ("CODE", 0, CODE_MOST),
     ("months", MONTHS_OFF, MONTHS_ON),
     ("quiet", QUIET_OFF, QUIET_ON),
+    ("edition", EDITION_1, EDITION_2),
 ];
 
 pub const GPK: usize = 0;
@@ -69,7 +73,9 @@ pub const SRTCDE: usize = 17;
 pub const CODE: usize = 18;
 pub const MONTHS: usize = 19;
 pub const QUIET: usize = 20;
+pub const EDITION: usize = 21;
 
+/// Not the edition: it has to be given (P7).
 pub const MAY_BE_BLANK: [usize; 8] = [PRK, HPK, AGE, SEX, WEIGHT, SURFACE, MONTHS, QUIET];
 
 #[derive(Clone, Copy, Debug)]
@@ -96,6 +102,7 @@ pub struct Entry {
     pub code: u32,
     pub months: Option<u32>,
     pub quiet: Option<u32>,
+    pub edition: u32,
 }
 
 impl Entry {
@@ -125,6 +132,7 @@ impl Entry {
             code: n[CODE],
             months: given(MONTHS),
             quiet: given(QUIET),
+            edition: n[EDITION],
         }
     }
 }

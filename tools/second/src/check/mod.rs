@@ -4,6 +4,7 @@ mod answer;
 mod category;
 pub mod cells;
 pub mod counts;
+mod edition;
 pub mod entry;
 pub mod fields;
 pub mod filling;
@@ -36,10 +37,11 @@ use answer::Found;
 /// The answer to one entry over the lent tables.
 pub fn check(lent: &Lent, entry: &Entry) -> Answer {
     let mut found = Found::default();
-    match steps(lent, entry, &mut found) {
+    let answer = match steps(lent, entry, &mut found) {
         Ok(compared) => Answer::compared(compared, &found),
         Err(test) => Answer::refused(test, &found),
-    }
+    };
+    edition::in_words_of(entry.edition, answer)
 }
 
 /// Each step answers what it chose, or the test that refused.

@@ -59,6 +59,7 @@ pub struct Missing<'t> {
 
 /// The signal, or what stands before it. Quiet not given means off.
 pub fn instead(signal: Test, missing: &Missing, entry: &Entry, found: &mut Found) -> Test {
+    found.ways.signal = Some(signal);
     if entry.quiet.unwrap_or(QUIET_OFF) != QUIET_ON {
         return signal;
     }

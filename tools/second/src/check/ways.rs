@@ -2,6 +2,7 @@
 
 use super::entry::Entry;
 use super::quiet::Quiet;
+use super::test::Test;
 
 #[derive(Clone, Copy, Default, PartialEq, Eq, PartialOrd, Ord, Debug)]
 pub enum Unit {
@@ -70,7 +71,9 @@ pub struct Ways {
     pub reason: Reason,
     pub route: Route,
     pub time: Time,
-    /// Where step 9 found no frequency, with quiet on.
+    /// Where step 9 found no frequency: the signal for it, given or not.
+    pub signal: Option<Test>,
+    /// The same with quiet on: what came of it.
     pub quiet: Option<Quiet>,
     pub weight_matters: Option<bool>,
     pub surface_matters: Option<bool>,

@@ -91,19 +91,15 @@ pub fn looked_for(case: &Case, answer: &Answer, entry: &Numbers) -> Vec<u64> {
 
 /// What is seen of the answer to an entry.
 pub fn missing(case: &Case, answer: &Answer, entry: &Numbers) -> Vec<Missing> {
-    let signal = match answer.numbers[8] {
-        0 => answer.numbers[0],
-        suppressed => suppressed,
-    };
+    // Edition 2's, whether or not it is given.
+    let Some(signal) = answer.ways.signal else { return vec![] };
     match (answer.ways.quiet, Setting::of(entry)) {
         (Some(quiet), _) => {
-            // A question names no signal; where a row per day passed the age it would be 115.
-            let asks = matches!(quiet, Quiet::WeightAsked | Quiet::SurfaceAsked);
-            let mut all = vec![Missing::Came(quiet, if asks { 115 } else { signal })];
+            let mut all = vec![Missing::Came(quiet, signal.answer())];
             all.extend(of_rules(case, answer, entry, quiet));
             all
         }
-        (None, Some(setting)) if (115..=117).contains(&signal) => not_on(case, entry, setting).into_iter().collect(),
+        (None, Some(setting)) => not_on(case, entry, setting).into_iter().collect(),
         _ => vec![],
     }
 }

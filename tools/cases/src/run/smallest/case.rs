@@ -3,7 +3,7 @@
 use super::{parts, Piece};
 use crate::generate::{self, case::Case};
 use crate::run::{answers_of, show};
-use second::check::entry::{BLANK, MAY_BE_BLANK, RANGES};
+use second::check::entry::{BLANK, EDITION, EDITION_2, MAY_BE_BLANK, RANGES};
 use second::check::fields::{BOUND_MOST, LOW_BOUNDS};
 use second::check::Table;
 
@@ -159,10 +159,11 @@ fn set(case: &mut Case, place: Place, number: u64) {
 const GPDGST: usize = 1;
 const BOTH_SEXES: u64 = 3;
 
-/// What says least at a place: blank, both sexes, no upper bound, or the lowest permitted number.
+/// What says least at a place: blank, edition 2, both sexes, no upper bound, or the lowest permitted number.
 fn plain(place: Place) -> u64 {
     match place.table {
         None if MAY_BE_BLANK.contains(&place.column) => BLANK as u64,
+        None if place.column == EDITION => EDITION_2 as u64,
         None => RANGES[place.column].1 as u64,
         Some(Table::T640) if place.column == GPDGST => BOTH_SEXES,
         Some(Table::T643) if LOW_BOUNDS.iter().any(|low| place.column == low + 1) => BOUND_MOST,
