@@ -1,8 +1,10 @@
 //! Document 02, P7, by hand: what each answer is in editions 1 and 2, and that all else is 125; in the single check and
 //! in a range. And what was stored before says 2.
 
+mod common;
+
 use cases::generate;
-use cases::generate::case::{Case, Numbers};
+use cases::generate::case::Numbers;
 use cases::generate::counts::CountCase;
 use cases::generate::edition::{
     asked, bad_tables, each, k_1_to_3, quiet_1_to_4, ranges, too_long, with_edition, EDITIONS, NO_EDITIONS,
@@ -10,12 +12,13 @@ use cases::generate::edition::{
 use cases::generate::full;
 use cases::generate::proof_ranges::{K_1_TO_3, QUIET_1_TO_4};
 use cases::generate::proof_table::{self, changed, tables, with, K, QUIET_K};
-use cases::run::cover::{Coverage, Seen};
+use cases::run::cover::Seen;
 use cases::run::edition::{self, in_edition_1, Edition};
-use cases::run::{answers_of, store, store_counts, STANDARD_CASES, STANDARD_SEED};
+use cases::run::{answers_of, store, store_counts};
+use common::{coverage, written};
 use second::check::entry::{BLANK, COUNT, EDITION, EDITION_1, EDITION_2, TIME_UNIT, WEIGHT};
 use second::check::{Test, NUMBERS};
-use second::stream::{answers::ANSWERS, counts::COUNTS, run, Program};
+use second::stream::{answers::ANSWERS, counts::COUNTS};
 
 const OUT_OF_RANGE: &str = "125 0 0 0 0 0 0 0 0";
 
@@ -98,12 +101,6 @@ fn lines_of(gets: &str, edition: u32) -> Vec<String> {
         _ => "132",
     };
     gets.split(' ').map(|gets| line(gets).to_string()).collect()
-}
-
-fn written(program: &Program, stream: &[u8]) -> Vec<String> {
-    let mut out = vec![];
-    run(program, stream, &mut out).expect("a slice is read and a vector written");
-    String::from_utf8(out).expect("text").lines().map(str::to_string).collect()
 }
 
 fn spelled(numbers: [u32; NUMBERS]) -> String {
@@ -288,17 +285,6 @@ fn the_place_is_the_same() {
     }
 }
 
-/// The coverage of the standard run, its entries changed.
-fn coverage(change: impl Fn(&mut Numbers)) -> Coverage {
-    let mut coverage = Coverage::default();
-    for number in 0..STANDARD_CASES {
-        let mut case: Case = generate::case(STANDARD_SEED, number);
-        case.entries.iter_mut().for_each(&change);
-        coverage.add(&case);
-    }
-    coverage
-}
-
 #[test]
 fn of_an_edition_nothing_else_occurs() {
     let possible = edition::required();
@@ -310,7 +296,7 @@ fn of_an_edition_nothing_else_occurs() {
 /// The coverage says so where all entries say 2: what is seen of an edition then, and all else is missed.
 #[test]
 fn entries_of_edition_1_are_missed() {
-    let missing = coverage(|entry| entry[EDITION] = EDITION_2).missing();
+    let missing = coverage(|case| case.entries.iter_mut().for_each(|entry| entry[EDITION] = EDITION_2)).missing();
     let of_2 = |seen: &Edition| matches!(seen, Edition::Signal(EDITION_2, _) | Edition::Suppressed(EDITION_2, _));
     let mut without: Vec<Seen> =
         edition::required().into_iter().filter(|seen| !of_2(seen)).map(Seen::Edition).collect();

@@ -1,18 +1,21 @@
 //! Document 02, P5, by hand: what an HPK brings, over document 004's products and over the proof table, in the single
 //! check and in a range; and what it changes.
 
+mod common;
+
 use cases::generate;
 use cases::generate::case::{Case, Numbers};
 use cases::generate::hpk::{asked, bad, bad_ranges, both_bad, each, ranges, rows_of, Bad};
 use cases::generate::order::{fall_as, sort, Order};
 use cases::generate::proof_ranges::{hpk_1_to_3, k_1_to_3_with_table_70, HPK_1_TO_3, K_1_TO_3};
 use cases::generate::proof_table::{with_table_70, HPK_K, K};
-use cases::run::cover::{Coverage, Seen};
+use cases::run::cover::Seen;
 use cases::run::hpk::{self, Brought};
-use cases::run::{after_filling, answers_of, store, store_counts, STANDARD_CASES, STANDARD_SEED};
+use cases::run::{after_filling, answers_of, store, store_counts};
+use common::{coverage, written};
 use second::check::entry::{BLANK, GPK, HPK, PRK};
 use second::check::{Filling, Table, NUMBERS};
-use second::stream::{answers::ANSWERS, counts::COUNTS, run, Program};
+use second::stream::{answers::ANSWERS, counts::COUNTS};
 
 /// What each entry gets over document 004's products: r and a rule, or an answer, behind a point the basis, which is
 /// the category too.
@@ -174,12 +177,6 @@ fn lines_of(gets: &str) -> Vec<String> {
     gets.split(' ').map(line).collect()
 }
 
-fn written(program: &Program, stream: &[u8]) -> Vec<String> {
-    let mut out = vec![];
-    run(program, stream, &mut out).expect("a slice is read and a vector written");
-    String::from_utf8(out).expect("text").lines().map(str::to_string).collect()
-}
-
 fn spelled(numbers: [u32; NUMBERS]) -> String {
     numbers.map(|number| number.to_string()).join(" ")
 }
@@ -296,17 +293,6 @@ fn what_is_filled_might_have_been_given() {
         }
     }
     assert!(unfilled > 10_000, "{unfilled}");
-}
-
-/// The coverage of the standard run, its cases changed.
-fn coverage(change: impl Fn(&mut Case)) -> Coverage {
-    let mut coverage = Coverage::default();
-    for number in 0..STANDARD_CASES {
-        let mut case = generate::case(STANDARD_SEED, number);
-        change(&mut case);
-        coverage.add(&case);
-    }
-    coverage
 }
 
 /// The coverage says so where table 70 is always empty: what is seen of an HPK then, and all else is missed.

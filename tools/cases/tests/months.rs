@@ -1,17 +1,19 @@
 //! Document 02, P3, by hand: what each months setting gets, in the single check and in a range. And what was stored
 //! before gives a setting.
 
-use cases::generate;
+mod common;
+
 use cases::generate::case::Case;
 use cases::generate::counts::CountCase;
 use cases::generate::months::{asked, each, ranges, say_on, Asked, Setting, NO_SETTING, UNITS};
 use cases::generate::proof_ranges::{k_1_to_3_with_months, K_1_TO_3};
 use cases::generate::proof_table::{with_months, K};
-use cases::run::cover::{Coverage, Seen};
-use cases::run::{answers_of, exchange, store, STANDARD_CASES, STANDARD_SEED};
+use cases::run::cover::Seen;
+use cases::run::{answers_of, exchange, store};
+use common::{coverage, written};
 use second::check::entry::{BLANK, COUNT, MONTHS, MONTHS_OFF, TIME_UNIT};
 use second::check::NUMBERS;
-use second::stream::{answers::ANSWERS, counts::COUNTS, run, Program};
+use second::stream::{answers::ANSWERS, counts::COUNTS};
 
 /// Whether two units that stand beside each other are twins: with months on, off and not given, in the single check and
 /// in a range.
@@ -79,12 +81,6 @@ fn lines_of(gets: &str, key: u32) -> Vec<String> {
 fn gets(asked: &Asked, twins: bool) -> Vec<String> {
     let (_, as_twins, as_others) = GETS.iter().find(|(name, ..)| *name == asked.name).expect("what it gets");
     lines_of(if twins { as_twins } else { as_others }, asked.key())
-}
-
-fn written(program: &Program, stream: &[u8]) -> Vec<String> {
-    let mut out = vec![];
-    run(program, stream, &mut out).expect("a slice is read and a vector written");
-    String::from_utf8(out).expect("text").lines().map(str::to_string).collect()
 }
 
 #[test]
@@ -164,17 +160,6 @@ fn what_was_stored_before_gives_a_setting() {
         say_on(&mut on.entries);
         assert!(numbers(&on).iter().zip(numbers(case)).any(|(on, off)| *on != off && (115..=117).contains(&off[0])));
     }
-}
-
-/// The coverage of the standard run, its entries changed.
-fn coverage(change: impl Fn(&mut Case)) -> Coverage {
-    let mut coverage = Coverage::default();
-    for number in 0..STANDARD_CASES {
-        let mut case = generate::case(STANDARD_SEED, number);
-        change(&mut case);
-        coverage.add(&case);
-    }
-    coverage
 }
 
 #[test]

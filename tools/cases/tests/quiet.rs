@@ -1,6 +1,8 @@
 //! Document 02, P4, by hand: what a missing frequency gets with each quiet setting, in the single check and in a range.
 //! And what was stored before gives no setting.
 
+mod common;
+
 use cases::generate;
 use cases::generate::case::{Case, Numbers};
 use cases::generate::counts::CountCase;
@@ -9,11 +11,12 @@ use cases::generate::proof_ranges::{k_1_to_3_with_quiet, quiet_1_to_4, K_1_TO_3,
 use cases::generate::proof_table::{with, with_quiet, K, QUIET_K};
 use cases::generate::quiet::{asked, each, full, ordered, ranges, One, KEY};
 use cases::random::Random;
-use cases::run::cover::{Coverage, Seen};
-use cases::run::{answers_of, quiet, store, store_counts, STANDARD_CASES, STANDARD_SEED};
+use cases::run::cover::Seen;
+use cases::run::{answers_of, quiet, store, store_counts};
+use common::{coverage, written};
 use second::check::entry::{BLANK, QUIET, QUIET_OFF, QUIET_ON};
 use second::check::NUMBERS;
-use second::stream::{answers::ANSWERS, counts::COUNTS, run, Program};
+use second::stream::{answers::ANSWERS, counts::COUNTS};
 
 /// What each of them gets: S is 115 suppressed, and r a rule by its number.
 const GETS: [(&str, &str); 94] = [
@@ -192,12 +195,6 @@ fn lines_of(gets: &str, key: u32) -> Vec<String> {
     gets.split(' ').map(|gets| line(gets, key)).collect()
 }
 
-fn written(program: &Program, stream: &[u8]) -> Vec<String> {
-    let mut out = vec![];
-    run(program, stream, &mut out).expect("a slice is read and a vector written");
-    String::from_utf8(out).expect("text").lines().map(str::to_string).collect()
-}
-
 fn spelled(numbers: [u32; NUMBERS]) -> String {
     numbers.map(|number| number.to_string()).join(" ")
 }
@@ -307,17 +304,6 @@ fn quiet_speaks_of_a_missing_frequency_alone() {
         }
     }
     assert!(changed > 500, "{changed}");
-}
-
-/// The coverage of the standard run, its entries changed.
-fn coverage(change: impl Fn(&mut Case)) -> Coverage {
-    let mut coverage = Coverage::default();
-    for number in 0..STANDARD_CASES {
-        let mut case = generate::case(STANDARD_SEED, number);
-        change(&mut case);
-        coverage.add(&case);
-    }
-    coverage
 }
 
 #[test]
