@@ -1,6 +1,6 @@
 // P7, hosts on the former text set: the one place that knows editions. (That there are two is a range of the entry: 125.)
 ghost use Rattle.std.specs.Prelude.{◌≡◌};
-ghost use Rattle.guideline.specs.Edition.{signals, missing-frequency, former-signal, former-text, in-former, in-edition};
+ghost use Rattle.guideline.specs.Edition.{signals, missing_frequency, former_signal, former_text, in_former, in_edition};
 
 use guideline::answer::Answer;
 use guideline::entries::Prescription;
@@ -17,14 +17,14 @@ fn signals() -> Range
 }
 
 fn missing_frequency(n: u32) -> bool
-    ensures { result ≡ missing-frequency n }
+    ensures { result ≡ missing_frequency n }
 {
     signals().holds(n)
 }
 
 // "Edition 1 gives 117"
 fn former_signal(n: u32) -> u32
-    ensures { result ≡ former-signal n }
+    ensures { result ≡ former_signal n }
 {
     if missing_frequency(n) {
         return 117;
@@ -34,7 +34,7 @@ fn former_signal(n: u32) -> u32
 
 // "with text 8"
 fn former_text(answer: u32, text: u32) -> u32
-    ensures { result ≡ former-text answer text }
+    ensures { result ≡ former_text answer text }
 {
     if missing_frequency(answer) {
         return 8;
@@ -43,7 +43,7 @@ fn former_text(answer: u32, text: u32) -> u32
 }
 
 fn in_former(a: Answer) -> Answer
-    ensures { result ≡ in-former a }
+    ensures { result ≡ in_former a }
 {
     let mut r = a;
     r.answer = former_signal(a.answer);
@@ -54,7 +54,7 @@ fn in_former(a: Answer) -> Answer
 
 // An answer as edition 2 gives it, in the entry's edition.
 pub fn in_edition(edition: u32, a: Answer) -> Answer
-    ensures { result ≡ in-edition edition a }
+    ensures { result ≡ in_edition edition a }
 {
     if edition == Prescription::FORMER {
         return in_former(a);

@@ -1,11 +1,11 @@
 // The numbers of an answer: answer, text, table and suppressed signal of each refusal, in document 01's order of steps, and the text of a comparison.
 ghost use Rattle.std.specs.Prelude.{◌≡◌};
 ghost use Rattle.guideline.specs.declared.refusals.Refusal.TheVariants.{Asks, Ends};
-ghost use Rattle.guideline.specs.Ask.{asks-for};
-ghost use Rattle.guideline.specs.Check.{refused, compared, compared-text};
+ghost use Rattle.guideline.specs.Ask.{asks_for};
+ghost use Rattle.guideline.specs.Check.{refused, compared, compared_text};
 ghost use Rattle.guideline.specs.declared.refusals.Ending.TheVariants.{NoFrequency, Suppressed};
-ghost use Rattle.guideline.specs.Rows.{table-number};
-ghost use Rattle.answer.specs.Lines.{line_of, line-asking, answer-with};
+ghost use Rattle.guideline.specs.Rows.{table_number};
+ghost use Rattle.answer.specs.Lines.{line_of, line_asking, answer_with};
 
 use guideline::answer::{Answer, Compared, Reached};
 use guideline::entries::Datum;
@@ -35,7 +35,7 @@ fn says(answer: u32, text: u32, table: u32) -> Line
 }
 
 fn number_of(t: TableName) -> u32
-    ensures { result ≡ table-number t }
+    ensures { result ≡ table_number t }
 {
     match t {
         TableName::T640 => 640,
@@ -49,7 +49,7 @@ fn number_of(t: TableName) -> u32
 }
 
 fn datum_of(q: Question) -> Datum
-    ensures { result ≡ asks-for q }
+    ensures { result ≡ asks_for q }
 {
     match q {
         Question::AgeOfPerson => Datum::Age,
@@ -65,7 +65,7 @@ fn datum_of(q: Question) -> Datum
 
 // Wherever it is asked for.
 fn line_of_datum(x: Datum) -> Line
-    ensures { result ≡ line-asking x }
+    ensures { result ≡ line_asking x }
 {
     match x {
         Datum::Age => says(101, 12, 0),
@@ -154,7 +154,7 @@ fn line_of(r: Refusal) -> Line
 
 // The numbers of an answer, the one list of them in the code.
 fn answer_of(line: Line, g: Reached, high: u32, low: u32) -> Answer
-    ensures { result ≡ answer-with line g high low }
+    ensures { result ≡ answer_with line g high low }
 {
     Answer {
         answer: line.answer,
@@ -177,7 +177,7 @@ pub fn refused(r: Refusal, g: Reached) -> Answer
 
 // "As 001, 4.6; 0 if high and low are 0; high's text if both speak." With a narrow range 5 and 6 (001, 4.6.1.4).
 fn text_of(c: Compared) -> u32
-    ensures { result ≡ compared-text c }
+    ensures { result ≡ compared_text c }
 {
     if c.high == 2 {
         if c.risk == Row640::NARROW {

@@ -1,20 +1,20 @@
 -- K1 to K15 and P4's examples, and P2's ranges, on the proof table as bytes. Assumes nothing.
 use lib.Dec.{T}
 use Rattle.guideline.specs.Bytes.{spelled}
-use Rattle.guideline.specs.Counts.{in-turn, counted, list-after}
-use Rattle.guideline.specs.ProofTable.{proof-table, bytes-printed, cases, agree}
+use Rattle.guideline.specs.Counts.{in_turn, counted, list_after}
+use Rattle.guideline.specs.ProofTable.{proof_table, bytes_printed, cases, agree}
 use Rattle.guideline.proofs.Opened.{opened}
-use Rattle.guideline.proofs.TwinTraps.{twin-tables}
-use Rattle.guideline.proofs.CountExamples.{ranges, ranges-of-months, all_hold}
+use Rattle.guideline.proofs.TwinTraps.{twin_tables}
+use Rattle.guideline.proofs.CountExamples.{ranges, ranges_of_months, all_hold}
 
-pub K1-to-K15-as-bytes : T (agree (spelled (bytes-printed proof-table)) cases)
+pub K1_to_K15_as_bytes : T (agree (spelled (bytes_printed proof_table)) cases)
 unfolding opened
-K1-to-K15-as-bytes = tt
+K1_to_K15_as_bytes = tt
 
-pub counts-of-K1-as-bytes : T (all_hold (spelled (bytes-printed proof-table)) ranges)
-unfolding opened in-turn counted list-after ranges
-counts-of-K1-as-bytes = tt
+pub counts_of_K1_as_bytes : T (all_hold (spelled (bytes_printed proof_table)) ranges)
+unfolding opened in_turn counted list_after ranges
+counts_of_K1_as_bytes = tt
 
-pub months-in-ranges-as-bytes : T (all_hold (spelled (bytes-printed twin-tables)) ranges-of-months)
-unfolding opened in-turn counted list-after twin-tables ranges-of-months
-months-in-ranges-as-bytes = tt
+pub months_in_ranges_as_bytes : T (all_hold (spelled (bytes_printed twin_tables)) ranges_of_months)
+unfolding opened in_turn counted list_after twin_tables ranges_of_months
+months_in_ranges_as_bytes = tt

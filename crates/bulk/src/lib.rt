@@ -1,8 +1,8 @@
 // What the programs that check in bulk share: cases from standard input, their lines to standard output. What a case says and which lines it gets is in the
 // libraries below. This one reads and writes by the kit's io, libc and os, whose contracts nothing proves; no other library stands on it.
 ghost use Rattle.std.specs.Prelude.{◌≤◌, length};
-ghost use Rattle.stream.specs.Cases.{longest-case, Whole};
-ghost use Rattle.case_lines.specs.Lines.{longest-text};
+ghost use Rattle.stream.specs.Cases.{longest_case, Whole};
+ghost use Rattle.case_lines.specs.Lines.{longest_text};
 ghost use Rattle.bulk.specs.Arrivals.{Held};
 
 use libc::{STDIN_FILENO, STDOUT_FILENO};
@@ -57,7 +57,7 @@ fn read_piece(buf: &mut [u8]) -> Piece
 }
 
 fn read_case(form: Form, case: &mut [u8]) -> Arrival
-    requires { longest-case ≤ length case.old }
+    requires { longest_case ≤ length case.old }
     ensures { Held form case.new result }
 {
     let mut have: usize = 0;
@@ -82,7 +82,7 @@ fn read_case(form: Form, case: &mut [u8]) -> Arrival
 
 // Where the lines fill the buffer they are written, and its room is free again.
 fn answer_case(form: Form, case: &[u8], out: &mut [u8], at: usize) -> Gathered
-    requires { Whole form case.now × (at ≤ length out.old) × (longest-text form ≤ length out.old) }
+    requires { Whole form case.now × (at ≤ length out.old) × (longest_text form ≤ length out.old) }
     ensures { result.end ≤ length out.new }
 {
     let test = case_lines::test_tables(case);
@@ -118,7 +118,7 @@ fn finish(arrival: Arrival, out: &[u8], at: usize)
 
 // A proved loop has to end, and nothing says that the input does: it counts down from a number that no run uses up.
 fn answer_all(form: Form, case: &mut [u8], out: &mut [u8])
-    requires { (longest-case ≤ length case.old) × (longest-text form ≤ length out.old) }
+    requires { (longest_case ≤ length case.old) × (longest_text form ≤ length out.old) }
 {
     let mut end: usize = 0;
     let mut turns = u64::MAX;

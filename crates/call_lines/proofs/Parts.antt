@@ -7,8 +7,8 @@ use lib.ListN.{length, take, drop}
 use lib.Seq.{length-take-le, take_at, drop_at}
 use Rattle.records.specs.Digits.{chars}
 use Rattle.records.specs.File.{File, writing, leaves}
-use Rattle.records.proofs.Chars.{length-chars}
-use Rattle.call_lines.specs.Lines.{write-line, place_of, written, write-call, left-call}
+use Rattle.records.proofs.Chars.{length_chars}
+use Rattle.call_lines.specs.Lines.{write_line, place_of, written, write_call, left_call}
 
 -- from a place to an end
 pub part_of : (s : List ℕ) (at n : ℕ) → take (at + n - at) (drop at s) ≡ chars s at n
@@ -24,17 +24,17 @@ module _ {Record : Type 0} (f : File Record) (before : ℕ) (s : List ℕ) (n : 
   left : b ≡ leaves f r place (take (before + n - before) (drop before s)) → b ≡ written f of before s n
   left e = e ∙ rw (is, at, part_of s before n)
 
-  pub line-left : (number : ℕ) → number ≡ writing f r place (length (take (before + n - before) (drop before s))) →
+  pub line_left : (number : ℕ) → number ≡ writing f r place (length (take (before + n - before) (drop before s))) →
       b ≡ leaves f r place (take (before + n - before) (drop before s)) → length b ≡ length (take (before + n - before) (drop before s)) →
-      write-line number (take (before + n - before) (drop before (take before s ++ (b ++ drop (before + n - before) (drop before s))))) ≡ write-call f of before s n
-  line-left number answered e long =
+      write_line number (take (before + n - before) (drop before (take before s ++ (b ++ drop (before + n - before) (drop before s))))) ≡ write_call f of before s n
+  line_left number answered e long =
       let k : before + n - before ≡ n = omega arith in
-      let p : length (chars s before n) ≡ n = length-chars s before n h in
+      let p : length (chars s before n) ≡ n = length_chars s before n h in
       let q : length b ≡ n = rw k at long ∙ p in
       let v : number ≡ writing f of (place_of s) n = rw (k, p, is, at) at answered in
       rw (k, middle s b before n h q, v, left e)
 
-  pub call-left : b ≡ leaves f r place (take (before + n - before) (drop before s)) → take before s ++ (b ++ drop (before + n - before) (drop before s)) ≡ left-call f of before s n
-  call-left e =
+  pub call_left : b ≡ leaves f r place (take (before + n - before) (drop before s)) → take before s ++ (b ++ drop (before + n - before) (drop before s)) ≡ left_call f of before s n
+  call_left e =
       let k : before + n - before ≡ n = omega arith in
       rw (left e, k)

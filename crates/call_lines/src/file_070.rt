@@ -2,9 +2,9 @@
 ghost use Rattle.std.specs.Prelude.{◌≡◌, ◌+◌, ◌≤◌, length};
 ghost use Rattle.decimals.specs.Put.{Put};
 ghost use Rattle.records.specs.Layout.{said};
-ghost use Rattle.records.specs.Numbers.{read-numbers};
-ghost use Rattle.records_070.specs.File070.{file-070};
-ghost use Rattle.call_lines.specs.Lines.{front, front-070, most_bytes, longest-line, read-line, call-070, read-call, write-070, left-070};
+ghost use Rattle.records.specs.Numbers.{read_numbers};
+ghost use Rattle.records_070.specs.File070.{file_070};
+ghost use Rattle.call_lines.specs.Lines.{front, front_070, most_bytes, longest_line, read_line, call_070, read_call, write_070, left_070};
 
 use crate::FRONT;
 use crate::lines::{put_three, put_written, read_number, write_number};
@@ -33,8 +33,8 @@ const PRANGP: usize = 40;
 const HPANGP: usize = 44;
 
 fn put_record(out: &mut [u8], at: usize, r: Record070) -> usize
-    requires { at + longest-line ≤ length out.old }
-    ensures { Put out.old at (read-line (read-numbers file-070 (said r))) out.new result × (result ≤ at + longest-line) }
+    requires { at + longest_line ≤ length out.old }
+    ensures { Put out.old at (read_line (read_numbers file_070 (said r))) out.new result × (result ≤ at + longest_line) }
 {
     let second = put_three(out, at, 0, r.mutation as u64, r.hpkode as u64, SPACE);
     let third = put_three(
@@ -50,8 +50,8 @@ fn put_record(out: &mut [u8], at: usize, r: Record070) -> usize
 }
 
 pub fn put_read_070(s: &[u8], n: usize, out: &mut [u8], at: usize) -> usize
-    requires { (front + n ≤ length s.now) × (at + longest-line ≤ length out.old) }
-    ensures { Put out.old at (read-call file-070 s.now n) out.new result × (result ≤ at + longest-line) }
+    requires { (front + n ≤ length s.now) × (at + longest_line ≤ length out.old) }
+    ensures { Put out.old at (read_call file_070 s.now n) out.new result × (result ≤ at + longest_line) }
 {
     let end = FRONT + n;
     let read = read_070(&s[FRONT..end]);
@@ -62,8 +62,8 @@ pub fn put_read_070(s: &[u8], n: usize, out: &mut [u8], at: usize) -> usize
 }
 
 fn record_070(s: &[u8]) -> Record070
-    requires { front-070 ≤ length s.now }
-    ensures { result ≡ call-070 s.now }
+    requires { front_070 ≤ length s.now }
+    ensures { result ≡ call_070 s.now }
 {
     Record070 {
         mutation: word(s, MUTATION),
@@ -77,8 +77,8 @@ fn record_070(s: &[u8]) -> Record070
 }
 
 pub fn put_write_070(s: &mut [u8], n: usize, out: &mut [u8], at: usize) -> usize
-    requires { (front-070 + n ≤ length s.old) × (n ≤ most_bytes) × (at + longest-line ≤ length out.old) }
-    ensures { Put out.old at (write-070 s.old n) out.new result × (result ≤ at + longest-line) × (s.new ≡ left-070 s.old n) }
+    requires { (front_070 + n ≤ length s.old) × (n ≤ most_bytes) × (at + longest_line ≤ length out.old) }
+    ensures { Put out.old at (write_070 s.old n) out.new result × (result ≤ at + longest_line) × (s.new ≡ left_070 s.old n) }
 {
     let r = record_070(s);
     let place = long(s, PLACE) as usize;

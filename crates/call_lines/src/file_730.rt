@@ -2,9 +2,9 @@
 ghost use Rattle.std.specs.Prelude.{◌≡◌, ◌+◌, ◌≤◌, length};
 ghost use Rattle.decimals.specs.Put.{Put};
 ghost use Rattle.records.specs.Layout.{said};
-ghost use Rattle.records.specs.Numbers.{read-numbers};
-ghost use Rattle.records_730.specs.File730.{file-730};
-ghost use Rattle.call_lines.specs.Lines.{front, front-730, most_bytes, longest-line, read-line, call-730, read-call, write-730, left-730};
+ghost use Rattle.records.specs.Numbers.{read_numbers};
+ghost use Rattle.records_730.specs.File730.{file_730};
+ghost use Rattle.call_lines.specs.Lines.{front, front_730, most_bytes, longest_line, read_line, call_730, read_call, write_730, left_730};
 
 use crate::FRONT;
 use crate::lines::{put_three, put_written, read_number, write_number};
@@ -29,8 +29,8 @@ const CDHOEV: usize = 32;
 const CDEENH: usize = 40;
 
 fn put_record(out: &mut [u8], at: usize, r: Record730) -> usize
-    requires { at + longest-line ≤ length out.old }
-    ensures { Put out.old at (read-line (read-numbers file-730 (said r))) out.new result × (result ≤ at + longest-line) }
+    requires { at + longest_line ≤ length out.old }
+    ensures { Put out.old at (read_line (read_numbers file_730 (said r))) out.new result × (result ≤ at + longest_line) }
 {
     let half = put_three(out, at, 0, r.mutation as u64, r.srtcde as u64, SPACE);
     put_three(
@@ -44,8 +44,8 @@ fn put_record(out: &mut [u8], at: usize, r: Record730) -> usize
 }
 
 pub fn put_read_730(s: &[u8], n: usize, out: &mut [u8], at: usize) -> usize
-    requires { (front + n ≤ length s.now) × (at + longest-line ≤ length out.old) }
-    ensures { Put out.old at (read-call file-730 s.now n) out.new result × (result ≤ at + longest-line) }
+    requires { (front + n ≤ length s.now) × (at + longest_line ≤ length out.old) }
+    ensures { Put out.old at (read_call file_730 s.now n) out.new result × (result ≤ at + longest_line) }
 {
     let end = FRONT + n;
     let read = read_730(&s[FRONT..end]);
@@ -56,8 +56,8 @@ pub fn put_read_730(s: &[u8], n: usize, out: &mut [u8], at: usize) -> usize
 }
 
 fn record_730(s: &[u8]) -> Record730
-    requires { front-730 ≤ length s.now }
-    ensures { result ≡ call-730 s.now }
+    requires { front_730 ≤ length s.now }
+    ensures { result ≡ call_730 s.now }
 {
     Record730 {
         mutation: word(s, MUTATION),
@@ -69,8 +69,8 @@ fn record_730(s: &[u8]) -> Record730
 }
 
 pub fn put_write_730(s: &mut [u8], n: usize, out: &mut [u8], at: usize) -> usize
-    requires { (front-730 + n ≤ length s.old) × (n ≤ most_bytes) × (at + longest-line ≤ length out.old) }
-    ensures { Put out.old at (write-730 s.old n) out.new result × (result ≤ at + longest-line) × (s.new ≡ left-730 s.old n) }
+    requires { (front_730 + n ≤ length s.old) × (n ≤ most_bytes) × (at + longest_line ≤ length out.old) }
+    ensures { Put out.old at (write_730 s.old n) out.new result × (result ≤ at + longest_line) × (s.new ≡ left_730 s.old n) }
 {
     let r = record_730(s);
     let place = long(s, PLACE) as usize;

@@ -1,11 +1,11 @@
 // Bytes in lowercase hexadecimal, written at a place of a lent buffer. The answer is the place behind.
 ghost use Rattle.std.specs.Prelude.{◌≡◌, ◌+◌, ◌*◌, ◌≤◌, ◌<◌, length};
 ghost use Rattle.decimals.specs.Put.{Put};
-ghost use Rattle.call_lines.specs.Lines.{hex-digit, hex};
+ghost use Rattle.call_lines.specs.Lines.{hex_digit, hex};
 
 fn hex_digit(d: u8) -> u8
     requires { d < 16 }
-    ensures { result ≡ hex-digit d }
+    ensures { result ≡ hex_digit d }
 {
     if d < 10 { b'0' + d } else { b'a' - 10 + d }
 }

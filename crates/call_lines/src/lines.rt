@@ -2,15 +2,15 @@
 ghost use Rattle.std.specs.Prelude.{◌≡◌, ◌++◌, ◌+◌, ◌≤◌, length};
 ghost use Rattle.decimals.specs.Decimal.{space, field};
 ghost use Rattle.decimals.specs.Put.{Put};
-ghost use Rattle.records.specs.Numbers.{read-refusal, write-number};
-ghost use Rattle.call_lines.specs.Lines.{most_bytes, longest-line, write-line};
+ghost use Rattle.records.specs.Numbers.{read_refusal, write_number};
+ghost use Rattle.call_lines.specs.Lines.{most_bytes, longest_line, write_line};
 
 use crate::hex::put_hex;
 use decimals::{LINE_FEED, SPACE, put_field};
 use records::{ReadRefusal, Written};
 
 pub fn read_number(e: ReadRefusal) -> u64
-    ensures { result ≡ read-refusal e }
+    ensures { result ≡ read_refusal e }
 {
     match e {
         ReadRefusal::Length => 201,
@@ -21,7 +21,7 @@ pub fn read_number(e: ReadRefusal) -> u64
 }
 
 pub fn write_number(w: Written) -> u64
-    ensures { result ≡ write-number w }
+    ensures { result ≡ write_number w }
 {
     match w {
         Written::Done => 0,
@@ -41,8 +41,8 @@ pub fn put_three(out: &mut [u8], at: usize, a: u64, b: u64, c: u64, behind: u8) 
 }
 
 pub fn put_written(out: &mut [u8], at: usize, number: u64, buffer: &[u8]) -> usize
-    requires { (length buffer.now ≤ most_bytes) × (at + longest-line ≤ length out.old) }
-    ensures { Put out.old at (write-line number buffer.now) out.new result × (result ≤ at + longest-line) }
+    requires { (length buffer.now ≤ most_bytes) × (at + longest_line ≤ length out.old) }
+    ensures { Put out.old at (write_line number buffer.now) out.new result × (result ≤ at + longest_line) }
 {
     let bytes = put_field(out, at, number, SPACE);
     let end = put_hex(out, bytes, buffer);

@@ -8,11 +8,11 @@ use Rattle.decimals.specs.Decimal.{decimals, decimal, field}
 use Rattle.records.specs.Ascii.{ascii}
 use Rattle.records.specs.File.{reading, writing, leaves}
 use Rattle.records.specs.Layout.{every, values, numbers, scan, fits, answer, leaving}
-use Rattle.records_730.specs.File730.{file-730}
-use Rattle.records_070.specs.File070.{file-070}
-use Rattle.call_lines.specs.Lines.{spaced, read-line, hex, write-line}
+use Rattle.records_730.specs.File730.{file_730}
+use Rattle.records_070.specs.File070.{file_070}
+use Rattle.call_lines.specs.Lines.{spaced, read_line, hex, write_line}
 use Rattle.call_stream.specs.Calls.{asked, found}
-use Rattle.call_stream.specs.Lines.{broken-line, line_of, last_line}
+use Rattle.call_stream.specs.Lines.{broken_line, line_of, last_line}
 use Rattle.call_stream.specs.declared.calls.Found.TheVariants.{More, Broken}
 
 -- the file, what is asked, the length
@@ -23,25 +23,25 @@ front_of file what n = word_bytes file ++ (word_bytes what ++ word_bytes n)
 haldol : List ℕ
 haldol = front_of 730 0 64 ++ (ascii "073001850000001002162670000000200000002000303" ++ replicate 19 32)
 
-haldol-line : line_of (found haldol) haldol ≡ ascii "0 0 1 216267 20000 303" ++ (10 ∷ [])
-unfolding front_of haldol word_bytes word found asked line_of read-line spaced field decimal decimals file-730 reading scan every numbers values
-haldol-line = refl
+haldol_line : line_of (found haldol) haldol ≡ ascii "0 0 1 216267 20000 303" ++ (10 ∷ [])
+unfolding front_of haldol word_bytes word found asked line_of read_line spaced field decimal decimals file_730 reading scan every numbers values
+haldol_line = refl
 
 -- HPK 709050, PRK 65919, GPK 111368, of file 070
 mixtard : List ℕ
 mixtard = front_of 70 0 64 ++ (ascii "00700007090500006591900000100111368000003000003" ++ replicate 17 32)
 
-mixtard-line : line_of (found mixtard) mixtard ≡ ascii "0 0 709050 65919 1 111368 3 3" ++ (10 ∷ [])
-unfolding front_of mixtard word_bytes word found asked line_of read-line spaced field decimal decimals file-070 reading scan every numbers values
-mixtard-line = refl
+mixtard_line : line_of (found mixtard) mixtard ≡ ascii "0 0 709050 65919 1 111368 3 3" ++ (10 ∷ [])
+unfolding front_of mixtard word_bytes word found asked line_of read_line spaced field decimal decimals file_070 reading scan every numbers values
+mixtard_line = refl
 
 -- a refusal's number alone
 short : List ℕ
 short = front_of 730 0 3 ++ ascii "073"
 
-short-line : line_of (found short) short ≡ ascii "201" ++ (10 ∷ [])
-unfolding front_of short word_bytes word found asked line_of read-line spaced field decimal decimals file-730 reading scan
-short-line = refl
+short_line : line_of (found short) short ≡ ascii "201" ++ (10 ∷ [])
+unfolding front_of short word_bytes word found asked line_of read_line spaced field decimal decimals file_730 reading scan
+short_line = refl
 
 -- place 0 and a record of zeros, to a buffer of one byte and to none
 zeros : List ℕ → List ℕ
@@ -50,24 +50,24 @@ zeros buffer = replicate 32 0 ++ buffer
 no_room : List ℕ
 no_room = front_of 730 1 1 ++ zeros (175 ∷ [])
 
-no-room-line : line_of (found no_room) no_room ≡ ascii "206 af" ++ (10 ∷ [])
-unfolding front_of zeros no_room word_bytes word long found asked line_of write-line hex field decimal decimals file-730 writing leaves leaving answer fits
-no-room-line = refl
+no_room_line : line_of (found no_room) no_room ≡ ascii "206 af" ++ (10 ∷ [])
+unfolding front_of zeros no_room word_bytes word long found asked line_of write_line hex field decimal decimals file_730 writing leaves leaving answer fits
+no_room_line = refl
 
 no_buffer : List ℕ
 no_buffer = front_of 730 1 0 ++ zeros []
 
-no-buffer-line : line_of (found no_buffer) no_buffer ≡ ascii "206 " ++ (10 ∷ [])
-unfolding front_of zeros no_buffer word_bytes word long found asked line_of write-line hex field decimal decimals file-730 writing leaves leaving answer fits
-no-buffer-line = refl
+no_buffer_line : line_of (found no_buffer) no_buffer ≡ ascii "206 " ++ (10 ∷ [])
+unfolding front_of zeros no_buffer word_bytes word long found asked line_of write_line hex field decimal decimals file_730 writing leaves leaving answer fits
+no_buffer_line = refl
 
 -- a record of file 070, to a buffer of one byte: its last number too wide, and as wide as it may be
 wide : List ℕ → List ℕ
 wide last = front_of 70 1 1 ++ (replicate 8 0 ++ (word_bytes 3 ++ (word_bytes 99999999 ++ (word_bytes 2 ++ (word_bytes 3 ++ (word_bytes 4 ++ (word_bytes 5 ++ (last ++ (175 ∷ [])))))))))
 
-wide-line : (line_of (found (wide (word_bytes 1000000))) (wide (word_bytes 1000000)) ≡ ascii "205 af" ++ (10 ∷ [])) × (line_of (found (wide (word_bytes 999999))) (wide (word_bytes 999999)) ≡ ascii "206 af" ++ (10 ∷ []))
-unfolding front_of wide word_bytes word long found asked line_of write-line hex field decimal decimals file-070 writing leaves leaving answer fits
-wide-line = (refl, refl)
+wide_line : (line_of (found (wide (word_bytes 1000000))) (wide (word_bytes 1000000)) ≡ ascii "205 af" ++ (10 ∷ [])) × (line_of (found (wide (word_bytes 999999))) (wide (word_bytes 999999)) ≡ ascii "206 af" ++ (10 ∷ []))
+unfolding front_of wide word_bytes word long found asked line_of write_line hex field decimal decimals file_070 writing leaves leaving answer fits
+wide_line = (refl, refl)
 
 -- another file, neither 0 nor 1, and more than 4,096 bytes; 4,096 bytes are no damage
 damaged : (found (front_of 731 0 64) ≡ Broken)
@@ -81,5 +81,5 @@ damaged = (refl, refl, refl, refl, refl, refl)
 
 -- a stream may end before a call, and not inside one
 ended : (last_line [] ≡ []) × (last_line (front_of 730 0 64) ≡ ascii "broken" ++ (10 ∷ []))
-unfolding front_of word_bytes last_line broken-line
+unfolding front_of word_bytes last_line broken_line
 ended = (refl, refl)

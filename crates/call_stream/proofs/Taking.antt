@@ -5,8 +5,8 @@ use mathlib.Core.Path.{◌≡◌, ◌∙◌}
 use native.Mathlib.Omega.{arith}
 use lib.ListN.{length}
 use Rattle.decimals.specs.Put.{Put}
-use Rattle.call_lines.specs.Lines.{longest-line}
-use Rattle.call_stream.specs.Calls.{longest-call, found}
+use Rattle.call_lines.specs.Lines.{longest_line}
+use Rattle.call_stream.specs.Calls.{longest_call, found}
 use Rattle.call_stream.specs.Lines.{line_of, after}
 use Rattle.call_stream.specs.Takes.{taken, Takes}
 use Rattle.call_stream.specs.declared.calls.Found.{Found}
@@ -16,35 +16,35 @@ use Rattle.call_stream.specs.declared.Taken.TheVariants as T
 use Rattle.call_stream.proofs.Finding.{Bounded, bounded}
 
 module _ (s : List ℕ) (f : Found) (r : Found) (e : r ≡ found s) (is : r ≡ f) where
-  found-is : found s ≡ f
-  found-is = rw (← e) is
+  found_is : found s ≡ f
+  found_is = rw (← e) is
 
   pub within : Bounded (length s) f
-  within = rw found-is at (bounded s)
+  within = rw found_is at (bounded s)
 
-  pub takes : (old left new : List ℕ) (at end : ℕ) (t : Taken) → Put old at (line_of f s) new end → end ≤ at + longest-line → left ≡ after f s → t ≡ taken f end → Takes s old at left new t
+  pub takes : (old left new : List ℕ) (at end : ℕ) (t : Taken) → Put old at (line_of f s) new end → end ≤ at + longest_line → left ≡ after f s → t ≡ taken f end → Takes s old at left new t
   takes old left new at end t p m l q =
       record {
-        result = q ∙ rw (found-is, p.place);
-        line = rw found-is p.bytes;
-        bytes = rw found-is l;
-        room = rw found-is (omega (arith, p.place));
+        result = q ∙ rw (found_is, p.place);
+        line = rw found_is p.bytes;
+        bytes = rw found_is l;
+        room = rw found_is (omega (arith, p.place));
       }
 
 -- what is taken lies inside the bytes and the line inside its room, and a part of a call is shorter than the longest
 abbrev pub Inside : ℕ → ℕ → Taken → Type 0
 Inside have room (T.Answered p) = (p.call ≤ have) × (p.end ≤ room)
-Inside have room T.More = have < longest-call
+Inside have room T.More = have < longest_call
 Inside have room (T.Broken end) = end ≤ room
 
-inside-taken : (f : Found) (have end room : ℕ) → Bounded have f → end ≤ room → Inside have room (taken f end)
+inside_taken : (f : Found) (have end room : ℕ) → Bounded have f → end ≤ room → Inside have room (taken f end)
 unfolding taken
-inside-taken (Read730 n) have end room b e = (b.0, e)
-inside-taken (Write730 n) have end room b e = (b.0, e)
-inside-taken (Read070 n) have end room b e = (b.0, e)
-inside-taken (Write070 n) have end room b e = (b.0, e)
-inside-taken More have end room b e = b
-inside-taken Broken have end room b e = e
+inside_taken (Read730 n) have end room b e = (b.0, e)
+inside_taken (Write730 n) have end room b e = (b.0, e)
+inside_taken (Read070 n) have end room b e = (b.0, e)
+inside_taken (Write070 n) have end room b e = (b.0, e)
+inside_taken More have end room b e = b
+inside_taken Broken have end room b e = e
 
-pub inside : {s old left new : List ℕ} {at : ℕ} {t : Taken} → Takes s old at left new t → Inside (length s) (at + longest-line) t
-inside {s} {old} {left} {new} {at} {t} p = rw p.result (inside-taken (found s) (length s) (at + length (line_of (found s) s)) (at + longest-line) (bounded s) (omega (arith, p.room)))
+pub inside : {s old left new : List ℕ} {at : ℕ} {t : Taken} → Takes s old at left new t → Inside (length s) (at + longest_line) t
+inside {s} {old} {left} {new} {at} {t} p = rw p.result (inside_taken (found s) (length s) (at + length (line_of (found s) s)) (at + longest_line) (bounded s) (omega (arith, p.room)))

@@ -1,7 +1,7 @@
 // Where a call ends, from the numbers in front of it.
 ghost use Rattle.std.specs.Prelude.{◌≡◌, ◌≤◌};
 ghost use Rattle.call_lines.specs.Lines.{most_bytes};
-ghost use Rattle.call_stream.specs.Calls.{found-730, found-070, found};
+ghost use Rattle.call_stream.specs.Calls.{found_730, found_070, found};
 
 use call_lines::FRONT;
 use call_lines::file_070::FRONT_070;
@@ -29,7 +29,7 @@ pub enum Found {
 
 fn find_730(what: u32, n: usize, have: usize) -> Found
     requires { n ≤ most_bytes }
-    ensures { result ≡ found-730 what n have }
+    ensures { result ≡ found_730 what n have }
 {
     if what == READS {
         if FRONT + n <= have {
@@ -48,7 +48,7 @@ fn find_730(what: u32, n: usize, have: usize) -> Found
 
 fn find_070(what: u32, n: usize, have: usize) -> Found
     requires { n ≤ most_bytes }
-    ensures { result ≡ found-070 what n have }
+    ensures { result ≡ found_070 what n have }
 {
     if what == READS {
         if FRONT + n <= have {

@@ -3,7 +3,7 @@ ghost use Rattle.std.specs.Prelude.{◌≡◌, ◌+◌, ◌-◌, ◌≤◌, leng
 ghost use Rattle.std.proofs.lemmas.List.Edits.{sets};
 ghost use Rattle.decimals.specs.Put.{Put};
 ghost use Rattle.records.specs.Digits.{chars};
-ghost use Rattle.call_lines.specs.Lines.{longest-line};
+ghost use Rattle.call_lines.specs.Lines.{longest_line};
 ghost use Rattle.call_stream.specs.Lines.{last_line};
 ghost use Rattle.call_stream.specs.Takes.{Takes};
 
@@ -34,7 +34,7 @@ pub enum Taken {
 }
 
 pub fn take_call(s: &mut [u8], out: &mut [u8], at: usize) -> Taken
-    requires { at + longest-line ≤ length out.old }
+    requires { at + longest_line ≤ length out.old }
     ensures { Takes s.old out.old at s.new out.new result }
 {
     let found = find(s);
@@ -76,8 +76,8 @@ pub fn to_front(s: &mut [u8], from: usize, to: usize) -> usize
 
 // The stream has ended, and these bytes are left.
 pub fn finish(s: &[u8], out: &mut [u8], at: usize) -> usize
-    requires { at + longest-line ≤ length out.old }
-    ensures { Put out.old at (last_line s.now) out.new result × (result ≤ at + longest-line) }
+    requires { at + longest_line ≤ length out.old }
+    ensures { Put out.old at (last_line s.now) out.new result × (result ≤ at + longest_line) }
 {
     if s.len() == 0 {
         return at;

@@ -8,19 +8,19 @@ use borrow.Author.Tests.{ltb-true}
 use lib.Dec.{leb}
 use lib.ListN.{length}
 use Rattle.decimals.specs.Put.{Put}
-use Rattle.guideline.specs.Counts.{in-turn}
+use Rattle.guideline.specs.Counts.{in_turn}
 use Rattle.ranges.specs.Soundly.{soundness}
-use Rattle.stream.specs.Cases.{tables-of, entry-count}
+use Rattle.stream.specs.Cases.{tables_of, entry_count}
 use Rattle.stream.specs.declared.cases.Form.{Form}
-use Rattle.case_lines.specs.Lines.{lines_of, lines_from, all_lines, longest-text, test_of, Answered}
+use Rattle.case_lines.specs.Lines.{lines_of, lines_from, all_lines, longest_text, test_of, Answered}
 use Rattle.entry_lines.specs.Lines.{Fitting}
 use Rattle.case_lines.specs.declared.Progress.{Progress}
 use Rattle.entry_lines.specs.declared.Test.TheVariants.{ByCheck, Once}
-use Rattle.entry_lines.proofs.Turns.{same-in-turn, join-in-turn, put_next}
+use Rattle.entry_lines.proofs.Turns.{same_in_turn, join_in_turn, put_next}
 
 module _ (f : Form) (b : List ℕ) where
   pub no_line : (from : ℕ) (old : List ℕ) (at : ℕ) → Put old at (lines_from f b from (from - from)) old at
-  unfolding in-turn
+  unfolding in_turn
   no_line from old at = let e : from - from ≡ 0 = omega arith in rw e (record { bytes = refl; place = omega arith })
 
   pub one_more : (old mid new : List ℕ) (from i at end behind next : ℕ) → from ≤ i → Put old at (lines_from f b from (i - from)) mid end → Put mid end (lines_of f b i) new behind → next ≡ i + 1 → Put old at (lines_from f b from (next - from)) new behind
@@ -31,29 +31,29 @@ module _ (f : Form) (b : List ℕ) where
   -- what one call writes and what the next writes are the lines of both
   pub lines_join : (i m n : ℕ) → lines_from f b i (m + n) ≡ lines_from f b i m ++ lines_from f b (i + m) n
   lines_join i m n =
-      join-in-turn (λ k. lines_of f b (i + k)) m n
-      ∙ ap (λ (l : List ℕ). lines_from f b i m ++ l) (same-in-turn (λ k. lines_of f b (i + (m + k))) (λ k. lines_of f b (i + m + k)) n (λ k _. let e : i + (m + k) ≡ i + m + k = omega arith in ap (lines_of f b) e))
+      join_in_turn (λ k. lines_of f b (i + k)) m n
+      ∙ ap (λ (l : List ℕ). lines_from f b i m ++ l) (same_in_turn (λ k. lines_of f b (i + (m + k))) (λ k. lines_of f b (i + m + k)) n (λ k _. let e : i + (m + k) ≡ i + m + k = omega arith in ap (lines_of f b) e))
 
-  pub rest-of-case : (m : ℕ) → m ≤ entry-count b → lines_from f b 0 m ++ lines_from f b m (entry-count b - m) ≡ all_lines f b
-  rest-of-case m h =
+  pub rest_of_case : (m : ℕ) → m ≤ entry_count b → lines_from f b 0 m ++ lines_from f b m (entry_count b - m) ≡ all_lines f b
+  rest_of_case m h =
       let e : 0 + m ≡ m = omega arith in
-      let k : m + (entry-count b - m) ≡ entry-count b = omega arith in
-      ap (λ (k : ℕ). lines_from f b 0 m ++ lines_from f b k (entry-count b - m)) (sym e) ∙ sym (lines_join 0 m (entry-count b - m)) ∙ ap (lines_from f b 0) k
+      let k : m + (entry_count b - m) ≡ entry_count b = omega arith in
+      ap (λ (k : ℕ). lines_from f b 0 m ++ lines_from f b k (entry_count b - m)) (sym e) ∙ sym (lines_join 0 m (entry_count b - m)) ∙ ap (lines_from f b 0) k
 
 -- what was tested of the tables of a case fits it
-pub test_fits : (b : List ℕ) → Fitting (test_of b) (tables-of b)
+pub test_fits : (b : List ℕ) → Fitting (test_of b) (tables_of b)
 unfolding test_of
-test_fits b = go (leb (entry-count b) 1)
+test_fits b = go (leb (entry_count b) 1)
   where
-    go : (t : Bool) → Fitting (cond t ByCheck (Once (soundness (tables-of b)))) (tables-of b)
+    go : (t : Bool) → Fitting (cond t ByCheck (Once (soundness (tables_of b)))) (tables_of b)
     go true = tt
     go false = refl
 
 -- a call that leaves entries has written the lines of some, or found the place without room for those of any
-pub moves : {f : Form} {b old new : List ℕ} {from at : ℕ} {r : Progress} → Answered f b from old at new r → r.more ≡ true → (r.next < entry-count b) × ((r.next ≡ from) → length new < at + longest-text f)
-unfolding in-turn
+pub moves : {f : Form} {b old new : List ℕ} {from at : ℕ} {r : Progress} → Answered f b from old at new r → r.more ≡ true → (r.next < entry_count b) × ((r.next ≡ from) → length new < at + longest_text f)
+unfolding in_turn
 moves {f} {b} {old} {new} {from} {at} {r} a m =
-    let more : r.next < entry-count b = ltb-true r.next (entry-count b) (sym a.left ∙ m) in (
+    let more : r.next < entry_count b = ltb-true r.next (entry_count b) (sym a.left ∙ m) in (
       more,
       λ e.
           let z : r.next - from ≡ 0 = omega arith in

@@ -6,54 +6,54 @@ use Rattle.guideline.specs.declared.counted.Counted.TheVariants.{All, Refused}
 use Rattle.guideline.specs.declared.entries.Entry.{Entry}
 use Rattle.guideline.specs.Bytes.{Lents, spelled}
 use Rattle.guideline.specs.Rows.{Tables}
-use Rattle.guideline.specs.Check.{answer-length, numbers_of, check}
-use Rattle.guideline.specs.Counts.{in-turn, answer-for, most-counts, counted, refusal-number}
+use Rattle.guideline.specs.Check.{answer_length, numbers_of, check}
+use Rattle.guideline.specs.Counts.{in_turn, answer_for, most_counts, counted, refusal_number}
 use Rattle.ranges.specs.Soundly.{soundness}
-use Rattle.stream.specs.Cases.{tables-of, entry_of, wanted-of, entry-count, Whole}
-use Rattle.stream.specs.Lines.{line, longest-line}
+use Rattle.stream.specs.Cases.{tables_of, entry_of, wanted_of, entry_count, Whole}
+use Rattle.stream.specs.Lines.{line, longest_line}
 use Rattle.stream.specs.declared.cases.Form.{Form}
 use Rattle.stream.specs.declared.cases.Form.TheVariants.{Single, Range, Ratio}
 use Rattle.stream.specs.declared.cases.Wanted.{Wanted}
 use Rattle.entry_lines.specs.declared.Test.{Test}
 use Rattle.entry_lines.specs.declared.Test.TheVariants.{ByCheck, Once}
-use Rattle.entry_lines.specs.Lines.{answer-line, range-lines, ratio-line, longest-range, Fitting}
+use Rattle.entry_lines.specs.Lines.{answer_line, range_lines, ratio_line, longest_range, Fitting}
 use Rattle.case_lines.specs.declared.Progress.{Progress}
 
 -- what entry i of a case gets
 unfoldable pub lines_of : Form → List ℕ → ℕ → List ℕ
-lines_of Single b i = answer-line (spelled (tables-of b)) (entry_of Single b i)
-lines_of Range b i = range-lines (spelled (tables-of b)) (entry_of Range b i) (wanted-of b i)
-lines_of Ratio b i = ratio-line (spelled (tables-of b)) (entry_of Ratio b i)
+lines_of Single b i = answer_line (spelled (tables_of b)) (entry_of Single b i)
+lines_of Range b i = range_lines (spelled (tables_of b)) (entry_of Range b i) (wanted_of b i)
+lines_of Ratio b i = ratio_line (spelled (tables_of b)) (entry_of Ratio b i)
 
 -- what n entries get, from entry i on
 abbrev pub lines_from : Form → List ℕ → ℕ → ℕ → List ℕ
-lines_from f b i n = in-turn (λ k. lines_of f b (i + k)) n
+lines_from f b i n = in_turn (λ k. lines_of f b (i + k)) n
 
 abbrev pub all_lines : Form → List ℕ → List ℕ
-all_lines f b = lines_from f b 0 (entry-count b)
+all_lines f b = lines_from f b 0 (entry_count b)
 
 -- room for what any entry gets
-abbrev pub longest-text : Form → ℕ
-longest-text Single = longest-line
-longest-text Range = longest-range
-longest-text Ratio = longest-line
+abbrev pub longest_text : Form → ℕ
+longest_text Single = longest_line
+longest_text Range = longest_range
+longest_text Ratio = longest_line
 
 -- what is tested of the tables
 unfoldable pub test_of : List ℕ → Test
-test_of b = cond (leb (entry-count b) 1) ByCheck (Once (soundness (tables-of b)))
+test_of b = cond (leb (entry_count b) 1) ByCheck (Once (soundness (tables_of b)))
 
 -- a whole case, what was tested of its tables, the entry to go on with, and a place in a buffer
 pub record Ready (f : Form) (b : List ℕ) (test : Test) (from room at : ℕ) : Type 0 where
   pub whole : Whole f b
-  pub tested : Fitting test (tables-of b)
-  pub entry : from ≤ entry-count b
+  pub tested : Fitting test (tables_of b)
+  pub entry : from ≤ entry_count b
   pub place : at ≤ room
 
 -- The lines from those of entry `from` on stand at the place, and no other byte changes. Where entries are left, there is no room for what any gets.
 pub record Answered (f : Form) (b : List ℕ) (from : ℕ) (old : List ℕ) (at : ℕ) (new : List ℕ) (r : Progress) : Type 0 where
   pub onward : from ≤ r.next
-  pub inside : r.next ≤ entry-count b
+  pub inside : r.next ≤ entry_count b
   pub text : Put old at (lines_from f b from (r.next - from)) new r.end
   pub fits : r.end ≤ length new
-  pub left : r.more ≡ ltb r.next (entry-count b)
-  pub full : r.next < entry-count b → length new < r.end + longest-text f
+  pub left : r.more ≡ ltb r.next (entry_count b)
+  pub full : r.next < entry_count b → length new < r.end + longest_text f

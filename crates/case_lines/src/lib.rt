@@ -2,9 +2,9 @@
 ghost use Rattle.std.specs.Prelude.{◌≡◌, ◌+◌, ◌≤◌, ◌<◌, length};
 ghost use Rattle.decimals.specs.Put.{Put};
 ghost use Rattle.guideline.specs.Bytes.{lents};
-ghost use Rattle.stream.specs.Cases.{tables-of, tables_end, entry-count, Whole};
+ghost use Rattle.stream.specs.Cases.{tables_of, tables_end, entry_count, Whole};
 ghost use Rattle.entry_lines.specs.Lines.{Fitting};
-ghost use Rattle.case_lines.specs.Lines.{test_of, lines_of, longest-text, Ready, Answered};
+ghost use Rattle.case_lines.specs.Lines.{test_of, lines_of, longest_text, Ready, Answered};
 
 use entry_lines::{Test, range, ratio, single};
 use guideline::rows::TableName;
@@ -38,7 +38,7 @@ pub fn test_tables(case: &[u8]) -> Test
 
 // Room for what any entry gets.
 pub fn longest(form: Form) -> usize
-    ensures { result ≡ longest-text form }
+    ensures { result ≡ longest_text form }
 {
     match form {
         Form::Single => stream::lines::LONGEST,
@@ -63,8 +63,8 @@ fn put_entry(
     out: &mut [u8],
     at: usize,
 ) -> usize
-    requires { Whole form case.now × (i < entry-count case.now) × Fitting test (tables-of case.now) × (lents t640.now t641.now t642.now t643.now t649.now t730.now t070.now ≡ tables-of case.now) × (at + longest-text form ≤ length out.old) }
-    ensures { Put out.old at (lines_of form case.now i) out.new result × (result ≤ at + longest-text form) }
+    requires { Whole form case.now × (i < entry_count case.now) × Fitting test (tables_of case.now) × (lents t640.now t641.now t642.now t643.now t649.now t730.now t070.now ≡ tables_of case.now) × (at + longest_text form ≤ length out.old) }
+    ensures { Put out.old at (lines_of form case.now i) out.new result × (result ≤ at + longest_text form) }
 {
     let e = stream::cases::entry(form, case, i);
     match form {
@@ -95,7 +95,7 @@ fn put_lines(
     out: &mut [u8],
     at: usize,
 ) -> Progress
-    requires { Ready f case.now t from (length out.old) at × (lents t640.now t641.now t642.now t643.now t649.now t730.now t070.now ≡ tables-of case.now) }
+    requires { Ready f case.now t from (length out.old) at × (lents t640.now t641.now t642.now t643.now t649.now t730.now t070.now ≡ tables_of case.now) }
     ensures { Answered f case.now from out.old at out.new result }
 {
     let n = stream::cases::entry_count(case);

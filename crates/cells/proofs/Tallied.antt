@@ -15,23 +15,23 @@ use Rattle.cells.specs.declared.Tally.{Tally}
 use Rattle.cells.specs.Tally.{counted, tallied, told, Tallying}
 
 -- a turn of a loop
-pub tally-hit : (h : ℕ → Bool) (i : ℕ) → h i ≡ true → tallied h (i + 1) ≡ record { count = (tallied h i).count + 1; last = i }
+pub tally_hit : (h : ℕ → Bool) (i : ℕ) → h i ≡ true → tallied h (i + 1) ≡ record { count = (tallied h i).count + 1; last = i }
 unfolding tallied
-tally-hit h i e = rw (add-one, e)
+tally_hit h i e = rw (add-one, e)
 
-pub tally-miss : (h : ℕ → Bool) (i : ℕ) → h i ≡ false → tallied h (i + 1) ≡ tallied h i
+pub tally_miss : (h : ℕ → Bool) (i : ℕ) → h i ≡ false → tallied h (i + 1) ≡ tallied h i
 unfolding tallied
-tally-miss h i e = rw (add-one, e)
+tally_miss h i e = rw (add-one, e)
 
 told_more : {A : Type 0} (n : ℕ) (x y : A) → more x (told n y) ≡ told (n + 1) x
 told_more zero x y = refl
 told_more (suc zero) x y = refl
 told_more (suc (suc n)) x y = rw add-one
 
-pub hits-tallied : {A : Type 0} (p : A → Bool) (f : ℕ → A) (n : ℕ) → hits (keep p (listed n f)) ≡ told (tallied (λ i. p (f i)) n).count (f (tallied (λ i. p (f i)) n).last)
+pub hits_tallied : {A : Type 0} (p : A → Bool) (f : ℕ → A) (n : ℕ) → hits (keep p (listed n f)) ≡ told (tallied (λ i. p (f i)) n).count (f (tallied (λ i. p (f i)) n).last)
 unfolding tallied
-hits-tallied p f zero = refl
-hits-tallied {A} p f (suc n) = go (p (f n)) (hits-tallied p f n)
+hits_tallied p f zero = refl
+hits_tallied {A} p f (suc n) = go (p (f n)) (hits_tallied p f n)
   where
     t : Tally
     t = tallied (λ i. p (f i)) n
@@ -44,37 +44,37 @@ hits-tallied {A} p f (suc n) = go (p (f n)) (hits-tallied p f n)
     go false e = e
 
 -- the last place is one of the places
-pub last-below : (h : ℕ → Bool) (n : ℕ) → 0 < (tallied h n).count → (tallied h n).last < n
+pub last_below : (h : ℕ → Bool) (n : ℕ) → 0 < (tallied h n).count → (tallied h n).last < n
 unfolding tallied
-last-below h zero c = absurd (let z : ⊥ = omega arith in z)
-last-below h (suc n) c = go (h n) (last-below h n) c
+last_below h zero c = absurd (let z : ⊥ = omega arith in z)
+last_below h (suc n) c = go (h n) (last_below h n) c
   where
     go : (b : Bool) → (0 < (tallied h n).count → (tallied h n).last < n) → 0 < (counted b n (tallied h n)).count → (counted b n (tallied h n)).last < suc n
     go true rec c = omega arith
     go false rec c = let k : (tallied h n).last < n = rec c in omega arith
 
 -- by the count: is there any; is there none; how many
-pub some-told : {A : Type 0} (n : ℕ) (x : A) → some (told n x) ≡ not (eqb n 0)
-some-told zero x = refl
-some-told (suc zero) x = refl
-some-told (suc (suc n)) x = rw (ne_eqb (suc (suc n)) 0 (λ e. omega arith))
+pub some_told : {A : Type 0} (n : ℕ) (x : A) → some (told n x) ≡ not (eqb n 0)
+some_told zero x = refl
+some_told (suc zero) x = refl
+some_told (suc (suc n)) x = rw (ne_eqb (suc (suc n)) 0 (λ e. omega arith))
 
-pub number-told : {A : Type 0} (n : ℕ) (x : A) → number (told n x) ≡ n
-number-told zero x = refl
-number-told (suc zero) x = refl
-number-told (suc (suc n)) x = refl
+pub number_told : {A : Type 0} (n : ℕ) (x : A) → number (told n x) ≡ n
+number_told zero x = refl
+number_told (suc zero) x = refl
+number_told (suc (suc n)) x = refl
 
-pub tallying-none : (h : ℕ → Bool) (rows : ℕ) → Tallying h rows 0 0 0
+pub tallying_none : (h : ℕ → Bool) (rows : ℕ) → Tallying h rows 0 0 0
 unfolding tallied
-tallying-none h rows = (omega arith, omega arith, refl, refl)
+tallying_none h rows = (omega arith, omega arith, refl, refl)
 
 module _ {rows i count last : ℕ} (h : ℕ → Bool) (k : Tallying h rows i count last) (in_rows : i < rows) where
-  pub tallying-hit : h i ≡ true → Tallying h rows (i + 1) (count + 1) i
-  tallying-hit e =
-      (omega arith, omega arith, rw (tally-hit h i e) (ap (λ (n : ℕ). n + 1) k.2), rw (tally-hit h i e))
+  pub tallying_hit : h i ≡ true → Tallying h rows (i + 1) (count + 1) i
+  tallying_hit e =
+      (omega arith, omega arith, rw (tally_hit h i e) (ap (λ (n : ℕ). n + 1) k.2), rw (tally_hit h i e))
 
-  pub tallying-miss : h i ≡ false → Tallying h rows (i + 1) count last
-  tallying-miss e = (omega arith, omega arith, rw (tally-miss h i e) k.2, rw (tally-miss h i e) k.3)
+  pub tallying_miss : h i ≡ false → Tallying h rows (i + 1) count last
+  tallying_miss e = (omega arith, omega arith, rw (tally_miss h i e) k.2, rw (tally_miss h i e) k.3)
 
 -- rows without the property are passed over
 none_between : (h : ℕ → Bool) (i j : ℕ) → i ≤ j → ((m : ℕ) → i ≤ m → m < j → h m ≡ false) → tallied h j ≡ tallied h i
@@ -82,20 +82,20 @@ unfolding tallied
 none_between h i =
     le_ind (λ j. ((m : ℕ) → i ≤ m → m < j → h m ≡ false) → tallied h j ≡ tallied h i) (λ misses. refl) (λ j le rec misses. rw (misses j le (omega arith)) (rec (λ m above below. misses m above (omega arith))))
 
-pub tallying-skip : {rows i count last : ℕ} (h : ℕ → Bool) (j : ℕ) → Tallying h rows i count last → i ≤ j → j ≤ rows → ((m : ℕ) → i ≤ m → m < j → h m ≡ false) → Tallying h rows j count last
-tallying-skip {rows} {i} h j k le most misses =
+pub tallying_skip : {rows i count last : ℕ} (h : ℕ → Bool) (j : ℕ) → Tallying h rows i count last → i ≤ j → j ≤ rows → ((m : ℕ) → i ≤ m → m < j → h m ≡ false) → Tallying h rows j count last
+tallying_skip {rows} {i} h j k le most misses =
     let same : tallied h j ≡ tallied h i = none_between h i j le misses in
     (most, omega arith, k.2 ∙ sym (ap (λ (t : Tally). t.count) same), k.3 ∙ sym (ap (λ (t : Tally). t.last) same))
 
-pub tallying-all : {rows i count last : ℕ} (h : ℕ → Bool) → Tallying h rows i count last → rows ≤ i → ◌≡◌ {A = Tally} (record { count = count; last = last }) (tallied h rows)
-tallying-all {rows} {i} h k j =
+pub tallying_all : {rows i count last : ℕ} (h : ℕ → Bool) → Tallying h rows i count last → rows ≤ i → ◌≡◌ {A = Tally} (record { count = count; last = last }) (tallied h rows)
+tallying_all {rows} {i} h k j =
     let e : i ≡ rows = omega arith in
     rw (← e, k.2, k.3)
 
 -- a row with the property is counted
-pub counted-once : (h : ℕ → Bool) (i n : ℕ) → i < n → h i ≡ true → 0 < (tallied h n).count
+pub counted_once : (h : ℕ → Bool) (i n : ℕ) → i < n → h i ≡ true → 0 < (tallied h n).count
 unfolding tallied
-counted-once h i n below hit =
+counted_once h i n below hit =
     le_ind (λ m. 0 < (tallied h m).count) (rw hit (omega arith)) (λ m _ k. go m (h m) k) n below
   where
     go : (m : ℕ) (b : Bool) → 0 < (tallied h m).count → 0 < (counted b m (tallied h m)).count
@@ -106,10 +106,10 @@ counted-once h i n below hit =
 pub told_none : {A : Type 0} {n : ℕ} (x : A) → n ≡ 0 → told n x ≡ None
 told_none x e = rw e
 
-pub told-one : {A : Type 0} {n : ℕ} (x : A) → n ≡ 1 → told n x ≡ One x
-told-one x e = rw e
+pub told_one : {A : Type 0} {n : ℕ} (x : A) → n ≡ 1 → told n x ≡ One x
+told_one x e = rw e
 
-pub told-many : {A : Type 0} (n : ℕ) (x : A) → (n ≡ 0 → ⊥) → (n ≡ 1 → ⊥) → told n x ≡ Many n
-told-many zero x h k = absurd (h refl)
-told-many (suc zero) x h k = absurd (k refl)
-told-many (suc (suc n)) x h k = refl
+pub told_many : {A : Type 0} (n : ℕ) (x : A) → (n ≡ 0 → ⊥) → (n ≡ 1 → ⊥) → told n x ≡ Many n
+told_many zero x h k = absurd (h refl)
+told_many (suc zero) x h k = absurd (k refl)
+told_many (suc (suc n)) x h k = refl

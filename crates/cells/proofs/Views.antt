@@ -12,8 +12,8 @@ use Rattle.guideline.specs.Rows.{width}
 use Rattle.guideline.specs.Bytes.{place, cell, rows_in, by_rows}
 use Rattle.cells.specs.Views.{Fits, narrowed}
 
-pub fits-less : {w n : ℕ} {v : View} (m : ℕ) → m ≤ w → Fits w v n → Fits m v n
-fits-less m less f = record { inside = λ i k row in_row. f.inside i k row (omega arith); end = f.end; few = f.few }
+pub fits_less : {w n : ℕ} {v : View} (m : ℕ) → m ≤ w → Fits w v n → Fits m v n
+fits_less m less f = record { inside = λ i k row in_row. f.inside i k row (omega arith); end = f.end; few = f.few }
 
 pub rows_fit : (n : TableName) (l : List ℕ) → Fits (width n) (by_rows n l) (length l)
 rows_fit n l =
@@ -36,25 +36,25 @@ rows_fit n l =
     most : r * (w * 4) ≤ length l
     most = div-mul-le_self (length l) (w * 4)
 
-pub narrowed-place : (v : View) (a b i k : ℕ) → place (narrowed v a b) i k ≡ place v (a + i) k
-narrowed-place v a b i k =
+pub narrowed_place : (v : View) (a b i k : ℕ) → place (narrowed v a b) i k ≡ place v (a + i) k
+narrowed_place v a b i k =
     let h : (a + i) * v.step ≡ a * v.step + i * v.step = add-mul a i v.step in
     omega arith
 
-pub narrowed-read : (l : List ℕ) (v : View) (a b i k : ℕ) → cell l (narrowed v a b) i k ≡ cell l v (a + i) k
-narrowed-read l v a b i k = ap (λ (p : ℕ). word l (p * 4)) (narrowed-place v a b i k)
+pub narrowed_read : (l : List ℕ) (v : View) (a b i k : ℕ) → cell l (narrowed v a b) i k ≡ cell l v (a + i) k
+narrowed_read l v a b i k = ap (λ (p : ℕ). word l (p * 4)) (narrowed_place v a b i k)
 
-pub narrowed-first : {w n : ℕ} {v : View} (a : ℕ) → a ≤ v.rows → Fits w v n → v.first + a * v.step ≤ n
-narrowed-first {w} {n} {v} a most f =
+pub narrowed_first : {w n : ℕ} {v : View} (a : ℕ) → a ≤ v.rows → Fits w v n → v.first + a * v.step ≤ n
+narrowed_first {w} {n} {v} a most f =
     let g : a * v.step ≤ v.rows * v.step = mul-le-mul_right v.step most in
     let e : v.first + v.rows * v.step ≤ n = f.end in
     omega arith
 
-pub narrowed-fits : {w n : ℕ} {v : View} (a b : ℕ) → a ≤ b → b ≤ v.rows → Fits w v n → Fits w (narrowed v a b) n
-narrowed-fits {w} {n} {v} a b order most f =
+pub narrowed_fits : {w n : ℕ} {v : View} (a b : ℕ) → a ≤ b → b ≤ v.rows → Fits w v n → Fits w (narrowed v a b) n
+narrowed_fits {w} {n} {v} a b order most f =
     record {
       inside = λ i k row in_row.
-          let h : place (narrowed v a b) i k ≡ place v (a + i) k = narrowed-place v a b i k in
+          let h : place (narrowed v a b) i k ≡ place v (a + i) k = narrowed_place v a b i k in
           let g : place v (a + i) k * 4 + 4 ≤ n = f.inside (a + i) k (omega arith) in_row in
           omega arith;
       end =

@@ -11,30 +11,30 @@ use Rattle.guideline.specs.declared.entries.Value.{Value}
 use Rattle.guideline.specs.declared.refusals.Ending.TheVariants.{EntryOutOfRange}
 use Rattle.guideline.specs.declared.refusals.Refusal.TheVariants.{Ends}
 use Rattle.guideline.specs.declared.rows.TableName.TheVariants.{T730}
-use Rattle.guideline.specs.Ask.{◌>>=◌, at, Outcome, Chosen, Refused, run, after, chosen-or, no-data}
+use Rattle.guideline.specs.Ask.{◌>>=◌, at, Outcome, Chosen, Refused, run, after, chosen_or, no_data}
 use Rattle.guideline.specs.Rows.{Tables}
-use Rattle.guideline.specs.Entries.{datum, in-range}
-use Rattle.guideline.specs.Steps.{ratio, nothing, Verdict, over-sound}
-use Rattle.guideline.specs.Check.{up-to-step-2, after-filling, from-step-2, outcome}
+use Rattle.guideline.specs.Entries.{datum, in_range}
+use Rattle.guideline.specs.Steps.{ratio, nothing, Verdict, over_sound}
+use Rattle.guideline.specs.Check.{up_to_step_2, after_filling, from_step_2, outcome}
 use Rattle.guideline.specs.Conversion.{conversion}
-use Rattle.guideline.proofs.Run.{where-reached, run_bind, run_at}
-use Rattle.lowest.proofs.Verdicts.{from-ratio}
-use Rattle.units.proofs.Told.{ratio-unasked}
+use Rattle.guideline.proofs.Run.{where_reached, run_bind, run_at}
+use Rattle.lowest.proofs.Verdicts.{from_ratio}
+use Rattle.units.proofs.Told.{ratio_unasked}
 
 -- step 2 of an entry after filling, and what follows from its ratio
-from-unit : (t : Tables) (f : Entry) → from-step-2 t f ≡ after (run no-data (at nothing (ratio (t.rows T730) f.rest))) (λ q. run (datum f.known) (from-ratio t f.rest q))
-unfolding from-step-2 over-sound
-from-unit t f =
+from_unit : (t : Tables) (f : Entry) → from_step_2 t f ≡ after (run no_data (at nothing (ratio (t.rows T730) f.rest))) (λ q. run (datum f.known) (from_ratio t f.rest q))
+unfolding from_step_2 over_sound
+from_unit t f =
     let d = datum f.known in
     let p = ratio (t.rows T730) f.rest in
-    run_bind d (at nothing p) (from-ratio t f.rest)
-    ∙ ap (λ (o : Outcome Reached Ratio). after o (λ q. run d (from-ratio t f.rest q))) (run_at d nothing p ∙ ap (where-reached nothing) (ratio-unasked (t.rows T730) f.rest d no-data) ∙ sym (run_at no-data nothing p))
+    run_bind d (at nothing p) (from_ratio t f.rest)
+    ∙ ap (λ (o : Outcome Reached Ratio). after o (λ q. run d (from_ratio t f.rest q))) (run_at d nothing p ∙ ap (where_reached nothing) (ratio_unasked (t.rows T730) f.rest d no_data) ∙ sym (run_at no_data nothing p))
 
-pub as-checked : (t : Tables) (e : Entry) → outcome t e ≡ after (conversion t e) (λ q. run (datum (after-filling t e).known) (from-ratio t (after-filling t e).rest q))
-unfolding outcome conversion after-filling
-as-checked t e = go (in-range e) (up-to-step-2 t e)
+pub as_checked : (t : Tables) (e : Entry) → outcome t e ≡ after (conversion t e) (λ q. run (datum (after_filling t e).known) (from_ratio t (after_filling t e).rest q))
+unfolding outcome conversion after_filling
+as_checked t e = go (in_range e) (up_to_step_2 t e)
   where
-    go : (b : Bool) (u : Outcome Reached Entry) → cond b (after u (from-step-2 t)) (Refused (Ends EntryOutOfRange) nothing) ≡ after (cond b (after u (λ f. run no-data (at nothing (ratio (t.rows T730) f.rest)))) (Refused (Ends EntryOutOfRange) nothing)) (λ q. run (datum (cond b (chosen-or e u) e).known) (from-ratio t (cond b (chosen-or e u) e).rest q))
-    go true (Chosen f) = from-unit t f
+    go : (b : Bool) (u : Outcome Reached Entry) → cond b (after u (from_step_2 t)) (Refused (Ends EntryOutOfRange) nothing) ≡ after (cond b (after u (λ f. run no_data (at nothing (ratio (t.rows T730) f.rest)))) (Refused (Ends EntryOutOfRange) nothing)) (λ q. run (datum (cond b (chosen_or e u) e).known) (from_ratio t (cond b (chosen_or e u) e).rest q))
+    go true (Chosen f) = from_unit t f
     go true (Refused r g) = refl
     go false u = refl

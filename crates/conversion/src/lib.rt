@@ -2,11 +2,11 @@
 ghost use Rattle.std.specs.Prelude.{◌≡◌, true};
 ghost use Rattle.guideline.specs.declared.rows.TableName.TheVariants.{T730, T070};
 ghost use Rattle.guideline.specs.Bytes.{lents, spelled};
-ghost use Rattle.guideline.specs.Entries.{in-range};
+ghost use Rattle.guideline.specs.Entries.{in_range};
 ghost use Rattle.cells.specs.Lents.{rows};
 ghost use Rattle.keys.specs.Seen.{Sees};
 ghost use Rattle.ranges.specs.Soundly.{soundness};
-ghost use Rattle.conversion.specs.HandsOn.{HandsOn, comes-to, from-filling, from-tables};
+ghost use Rattle.conversion.specs.HandsOn.{HandsOn, comes_to, from_filling, from_tables};
 
 use filling::Filled;
 use guideline::entries::Entry;
@@ -18,7 +18,7 @@ use units::Converted;
 // P5's filling, and step 2.
 fn from_filling(t730: &[u8], t070: &[u8], w: AllSeen, e: Entry) -> Converted
     requires { Sees T730 t730.now w.t730 × Sees T070 t070.now w.t070 }
-    ensures { result ≡ comes-to (from-filling (rows T730 t730.now) (rows T070 t070.now) e) }
+    ensures { result ≡ comes_to (from_filling (rows T730 t730.now) (rows T070 t070.now) e) }
 {
     let step = filling::fill(t070, w.t070, e);
     let Filled::Entry(f) = step else {
@@ -40,7 +40,7 @@ fn from_tables(
     e: Entry,
 ) -> Converted
     requires { s ≡ soundness (lents t640.now t641.now t642.now t643.now t649.now t730.now t070.now) }
-    ensures { result ≡ comes-to (from-tables (spelled (lents t640.now t641.now t642.now t643.now t649.now t730.now t070.now)) e) }
+    ensures { result ≡ comes_to (from_tables (spelled (lents t640.now t641.now t642.now t643.now t649.now t730.now t070.now)) e) }
 {
     let Soundness::Sound(w) = s else {
         return Converted::Refused(s.refusal());

@@ -4,8 +4,8 @@ use Rattle.std.specs.Prelude.{ℕ, zero, suc, ◌/◌, ◌%◌, ◌+◌, cond, L
 abbrev pub space : ℕ
 space = 32
 
-abbrev pub line-feed : ℕ
-line-feed = 10
+abbrev pub line_feed : ℕ
+line_feed = 10
 
 -- a number below ten is its digit; any other, those of its tenth and then its last digit; k is more than the digits
 unfoldable pub decimals : ℕ → ℕ → List ℕ

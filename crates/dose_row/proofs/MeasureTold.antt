@@ -9,5 +9,5 @@ use Rattle.sieve.specs.declared.settled.Settled.{Settled}
 use Rattle.dose_row.specs.declared.by_measure.Measured.{Measured}
 use Rattle.dose_row.specs.Measured.{Leaves}
 
-pub told-measure : (l : List ℕ) (v : View) (s : Settled) (m : Measure) (x : Value) {r k : Measured} → Leaves l v s m x r → r ≡ k → Leaves l v s m x k
-told-measure l v s m x h e = subst (Leaves l v s m x) e h
+pub told_measure : (l : List ℕ) (v : View) (s : Settled) (m : Measure) (x : Value) {r k : Measured} → Leaves l v s m x r → r ≡ k → Leaves l v s m x k
+told_measure l v s m x h e = subst (Leaves l v s m x) e h

@@ -16,88 +16,88 @@ use Rattle.guideline.specs.declared.refusals.Refusal.TheVariants.{Asks, Ends}
 use Rattle.guideline.specs.declared.rows.Row643.{Row643}
 use Rattle.guideline.specs.declared.rows.Row649.{Row649}
 use Rattle.guideline.specs.Values.{fits, matters}
-use Rattle.guideline.specs.Ask.{asks-for, Chosen, Refused, Done, run, ◌>>=◌}
+use Rattle.guideline.specs.Ask.{asks_for, Chosen, Refused, Done, run, ◌>>=◌}
 use Rattle.guideline.specs.Table.{Table, some, among, every}
 use Rattle.guideline.specs.Forms.{when, refuse, ask, choose, one, narrow}
 use Rattle.guideline.specs.Quiet.{suppresses}
-use Rattle.guideline.specs.Steps.{signal, no-frequency, by-frequency, by-measure, one-row}
-use Rattle.guideline.proofs.Run.{refused-here, chosen-then}
+use Rattle.guideline.specs.Steps.{signal, no_frequency, by_frequency, by_measure, one_row}
+use Rattle.guideline.proofs.Run.{refused_here, chosen_then}
 use Rattle.cells.specs.Tally.{told}
-use Rattle.cells.proofs.Tallied.{told-one}
+use Rattle.cells.proofs.Tallied.{told_one}
 use Rattle.filter.specs.declared.Filter.{Filter}
 use Rattle.filter.specs.declared.Filter.TheVariants.{Exact, Twin}
-use Rattle.filter.specs.Filters.{filter643, frequency-of}
-use Rattle.filter.proofs.Frequencies.{exact-filter, twin-filter}
-use Rattle.sieve.specs.Matched.{frequency-kept}
-use Rattle.sieve.proofs.Frequencies.{has-exact, has-twin}
+use Rattle.filter.specs.Filters.{filter643, frequency_of}
+use Rattle.filter.proofs.Frequencies.{exact_filter, twin_filter}
+use Rattle.sieve.specs.Matched.{frequency_kept}
+use Rattle.sieve.proofs.Frequencies.{has_exact, has_twin}
 
 -- a filter that leaves no row is refused; else it goes on with what it leaves
 module _ (p : Row643 → Bool) (t : Table Row643) (d : Datum → Value) (none : Ending) where
-  pub narrow-none : some (t p) ≡ false → run d (narrow p none t) ≡ Refused (Ends none) tt
+  pub narrow_none : some (t p) ≡ false → run d (narrow p none t) ≡ Refused (Ends none) tt
   unfolding narrow when refuse
-  narrow-none h = rw h
+  narrow_none h = rw h
 
-  pub narrow-some : some (t p) ≡ true → run d (narrow p none t) ≡ Chosen (among p t)
+  pub narrow_some : some (t p) ≡ true → run d (narrow p none t) ≡ Chosen (among p t)
   unfolding narrow when
-  narrow-some h = rw h
+  narrow_some h = rw h
 
 -- step 9
 module _ (limits : Table Row649) (p : Prescription) (c : Context) (t : Table Row643) (d : Datum → Value) where
-  frequency-exact : has-exact p t ≡ true → run d (by-frequency limits p c t) ≡ Chosen (among (filter643 (Exact (frequency-of p))) t)
-  unfolding by-frequency when
-  frequency-exact h = rw (exact-filter p, h)
+  frequency_exact : has_exact p t ≡ true → run d (by_frequency limits p c t) ≡ Chosen (among (filter643 (Exact (frequency_of p))) t)
+  unfolding by_frequency when
+  frequency_exact h = rw (exact_filter p, h)
 
-  frequency-twin : has-exact p t ≡ false → has-twin p t ≡ true → run d (by-frequency limits p c t) ≡ Chosen (among (filter643 (Twin (frequency-of p))) t)
-  unfolding by-frequency when
-  frequency-twin h k = rw (exact-filter p, twin-filter p, h, k)
+  frequency_twin : has_exact p t ≡ false → has_twin p t ≡ true → run d (by_frequency limits p c t) ≡ Chosen (among (filter643 (Twin (frequency_of p))) t)
+  unfolding by_frequency when
+  frequency_twin h k = rw (exact_filter p, twin_filter p, h, k)
 
-  pub frequency-found : (q : Filter) → q ≡ frequency-kept (frequency-of p) t → some (t (filter643 q)) ≡ true → run d (by-frequency limits p c t) ≡ Chosen (among (filter643 q) t)
-  frequency-found = go (has-exact p t) refl
+  pub frequency_found : (q : Filter) → q ≡ frequency_kept (frequency_of p) t → some (t (filter643 q)) ≡ true → run d (by_frequency limits p c t) ≡ Chosen (among (filter643 q) t)
+  frequency_found = go (has_exact p t) refl
     where
-      go : (b : Bool) → has-exact p t ≡ b → (q : Filter) → q ≡ cond b (Exact (frequency-of p)) (Twin (frequency-of p)) → some (t (filter643 q)) ≡ true → run d (by-frequency limits p c t) ≡ Chosen (among (filter643 q) t)
-      go true h q e hit = rw e (frequency-exact h)
-      go false h q e hit = rw e (frequency-twin h (rw e at hit))
+      go : (b : Bool) → has_exact p t ≡ b → (q : Filter) → q ≡ cond b (Exact (frequency_of p)) (Twin (frequency_of p)) → some (t (filter643 q)) ≡ true → run d (by_frequency limits p c t) ≡ Chosen (among (filter643 q) t)
+      go true h q e hit = rw e (frequency_exact h)
+      go false h q e hit = rw e (frequency_twin h (rw e at hit))
 
-  pub frequency-none : has-exact p t ≡ false → has-twin p t ≡ false → run d (by-frequency limits p c t) ≡ run d (no-frequency limits p c t)
-  unfolding by-frequency when
-  frequency-none h k = rw (exact-filter p, twin-filter p, h, k)
+  pub frequency_none : has_exact p t ≡ false → has_twin p t ≡ false → run d (by_frequency limits p c t) ≡ run d (no_frequency limits p c t)
+  unfolding by_frequency when
+  frequency_none h k = rw (exact_filter p, twin_filter p, h, k)
 
   -- P4's two questions end step 9; else the signal does, suppressed or not
-  pub signal-asked : {w : Refusal} → run d (suppresses limits p c t) ≡ Refused w tt → run d (no-frequency limits p c t) ≡ Refused w tt
-  unfolding no-frequency
-  signal-asked h = sym (refused-here (λ o. o) d (suppresses limits p c t) _ h)
+  pub signal_asked : {w : Refusal} → run d (suppresses limits p c t) ≡ Refused w tt → run d (no_frequency limits p c t) ≡ Refused w tt
+  unfolding no_frequency
+  signal_asked h = sym (refused_here (λ o. o) d (suppresses limits p c t) _ h)
 
-  pub signal-suppressed : run d (suppresses limits p c t) ≡ Chosen true → run d (no-frequency limits p c t) ≡ Refused (Ends (Suppressed (signal p t))) tt
-  unfolding no-frequency when refuse
-  signal-suppressed h = sym (chosen-then (λ o. o) d (suppresses limits p c t) _ h)
+  pub signal_suppressed : run d (suppresses limits p c t) ≡ Chosen true → run d (no_frequency limits p c t) ≡ Refused (Ends (Suppressed (signal p t))) tt
+  unfolding no_frequency when refuse
+  signal_suppressed h = sym (chosen_then (λ o. o) d (suppresses limits p c t) _ h)
 
-  pub signal-stands : run d (suppresses limits p c t) ≡ Chosen false → run d (no-frequency limits p c t) ≡ Refused (Ends (NoFrequency (signal p t))) tt
-  unfolding no-frequency when refuse
-  signal-stands h = sym (chosen-then (λ o. o) d (suppresses limits p c t) _ h)
+  pub signal_stands : run d (suppresses limits p c t) ≡ Chosen false → run d (no_frequency limits p c t) ≡ Refused (Ends (NoFrequency (signal p t))) tt
+  unfolding no_frequency when refuse
+  signal_stands h = sym (chosen_then (λ o. o) d (suppresses limits p c t) _ h)
 
 -- step 10
 module _ (q : Question) (none : Ending) (bounds : Row643 → Bounds) (t : Table Row643) (d : Datum → Value) where
-  pub measure-unneeded : some (t (λ r. matters (bounds r))) ≡ false → run d (by-measure q none bounds t) ≡ Chosen t
-  unfolding by-measure when
-  measure-unneeded h = rw h
+  pub measure_unneeded : some (t (λ r. matters (bounds r))) ≡ false → run d (by_measure q none bounds t) ≡ Chosen t
+  unfolding by_measure when
+  measure_unneeded h = rw h
 
-  pub measure-blank : some (t (λ r. matters (bounds r))) ≡ true → d (asks-for q) ≡ Blank → run d (by-measure q none bounds t) ≡ Refused (Asks q) tt
-  unfolding by-measure when ask ◌>>=◌
-  measure-blank h b = rw (h, b)
+  pub measure_blank : some (t (λ r. matters (bounds r))) ≡ true → d (asks_for q) ≡ Blank → run d (by_measure q none bounds t) ≡ Refused (Asks q) tt
+  unfolding by_measure when ask ◌>>=◌
+  measure_blank h b = rw (h, b)
 
-  pub measure-given : {x : ℕ} → some (t (λ r. matters (bounds r))) ≡ true → d (asks-for q) ≡ Given x → run d (by-measure q none bounds t) ≡ run d (narrow (λ r. fits (bounds r) x) none t)
-  unfolding by-measure when ask ◌>>=◌
-  measure-given h b = rw (h, b)
+  pub measure_given : {x : ℕ} → some (t (λ r. matters (bounds r))) ≡ true → d (asks_for q) ≡ Given x → run d (by_measure q none bounds t) ≡ run d (narrow (λ r. fits (bounds r) x) none t)
+  unfolding by_measure when ask ◌>>=◌
+  measure_given h b = rw (h, b)
 
 -- step 11
 module _ (t : Table Row643) (d : Datum → Value) (n : ℕ) (r : Row643) (e : t every ≡ told n r) where
-  pub row_one : n ≡ 1 → run d (one-row t) ≡ Chosen r
-  unfolding one-row one choose
-  row_one k = rw (e ∙ told-one r k)
+  pub row_one : n ≡ 1 → run d (one_row t) ≡ Chosen r
+  unfolding one_row one choose
+  row_one k = rw (e ∙ told_one r k)
 
-  pub row-several : (n ≡ 1 → ⊥) → run d (one-row t) ≡ Refused (Ends RowsSeveral) tt
-  unfolding one-row one choose refuse
-  row-several z = rw e (go n z)
+  pub row_several : (n ≡ 1 → ⊥) → run d (one_row t) ≡ Refused (Ends RowsSeveral) tt
+  unfolding one_row one choose refuse
+  row_several z = rw e (go n z)
     where
       go : (m : ℕ) → (m ≡ 1 → ⊥) → run d (choose (told m r) (refuse RowsSeveral) (λ a. Done a) (refuse RowsSeveral)) ≡ Refused (Ends RowsSeveral) tt
       go zero z = refl

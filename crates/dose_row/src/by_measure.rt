@@ -4,7 +4,7 @@ ghost use Rattle.guideline.specs.declared.entries.Value.TheVariants.{Blank};
 ghost use Rattle.guideline.specs.declared.rows.TableName.TheVariants.{T643};
 ghost use Rattle.guideline.specs.Rows.{width};
 ghost use Rattle.cells.specs.Views.{Fits};
-ghost use Rattle.dose_row.specs.Measured.{question-of, ending_of, refusal-of, Leaves};
+ghost use Rattle.dose_row.specs.Measured.{question_of, ending_of, refusal_of, Leaves};
 ghost use Rattle.sieve.specs.Settled.{own_value};
 
 use filter::{Filter, Measure};
@@ -21,7 +21,7 @@ pub enum Measured {
 
 impl Measured {
     pub fn refusal(self) -> Refusal
-        ensures { result ≡ refusal-of self }
+        ensures { result ≡ refusal_of self }
     {
         match self {
             Measured::Rows(_, _) => Refusal::none(),
@@ -32,7 +32,7 @@ impl Measured {
 
 // 105 and 106.
 fn question_of(m: Measure) -> Question
-    ensures { result ≡ question-of m }
+    ensures { result ≡ question_of m }
 {
     match m {
         Measure::Weight => Question::WeightOfRow,

@@ -9,27 +9,27 @@ use Rattle.guideline.specs.declared.counted.Counted.TheVariants.{All, Refused}
 use Rattle.guideline.specs.declared.counted.RangeRefusal.{RangeRefusal}
 use Rattle.guideline.specs.declared.entries.Entry.{Entry}
 use Rattle.guideline.specs.Rows.{Tables}
-use Rattle.guideline.specs.Check.{answer-length}
-use Rattle.guideline.specs.Counts.{in-turn, answers-from, places-in, counted, list-after}
-use Rattle.guideline.proofs.CountLaws.{listed-fits}
-use Rattle.each_count.specs.Each.{how-many}
+use Rattle.guideline.specs.Check.{answer_length}
+use Rattle.guideline.specs.Counts.{in_turn, answers_from, places_in, counted, list_after}
+use Rattle.guideline.proofs.CountLaws.{listed_fits}
+use Rattle.each_count.specs.Each.{how_many}
 
 module _ (t : Tables) (e : Entry) (first last : ℕ) (list : List ℕ) where
-  pub refused-list : (why : RangeRefusal) → counted first last (places-in list) ≡ Refused why → list-after t e first last list ≡ list
-  unfolding list-after
-  refused-list why h = rw h refl
+  pub refused_list : (why : RangeRefusal) → counted first last (places_in list) ≡ Refused why → list_after t e first last list ≡ list
+  unfolding list_after
+  refused_list why h = rw h refl
 
-  pub answers-list : (n : ℕ) → counted first last (places-in list) ≡ All n → list-after t e first last list ≡ answers-from t e first n ++ drop (n * answer-length) list
-  unfolding list-after
-  answers-list n h = rw h refl
+  pub answers_list : (n : ℕ) → counted first last (places_in list) ≡ All n → list_after t e first last list ≡ answers_from t e first n ++ drop (n * answer_length) list
+  unfolding list_after
+  answers_list n h = rw h refl
 
   -- either way: so many answers, and behind them what stood there
-  pub list-answered : (r : Counted) → counted first last (places-in list) ≡ r → list-after t e first last list ≡ answers-from t e first (how-many r) ++ drop (how-many r * answer-length) list
-  unfolding in-turn
-  list-answered (All n) h = answers-list n h
-  list-answered (Refused why) h = refused-list why h
+  pub list_answered : (r : Counted) → counted first last (places_in list) ≡ r → list_after t e first last list ≡ answers_from t e first (how_many r) ++ drop (how_many r * answer_length) list
+  unfolding in_turn
+  list_answered (All n) h = answers_list n h
+  list_answered (Refused why) h = refused_list why h
 
 -- the answers fit the list, and their counts end where the range does
-pub many-fit : (first last places most : ℕ) (r : Counted) → counted first last places ≡ r → first ≤ most → suc last ≤ most → (how-many r ≤ places) × (first + how-many r ≤ most)
-many-fit first last places most (All n) h f l = let k = listed-fits first last places n h in (k.2, omega (arith, k.3))
-many-fit first last places most (Refused why) h f l = (omega arith, omega arith)
+pub many_fit : (first last places most : ℕ) (r : Counted) → counted first last places ≡ r → first ≤ most → suc last ≤ most → (how_many r ≤ places) × (first + how_many r ≤ most)
+many_fit first last places most (All n) h f l = let k = listed_fits first last places n h in (k.2, omega (arith, k.3))
+many_fit first last places most (Refused why) h f l = (omega arith, omega arith)

@@ -4,12 +4,12 @@ use Rattle.guideline.specs.declared.counted.Counted.{Counted}
 use Rattle.guideline.specs.declared.counted.Counted.TheVariants.{All, Refused}
 use Rattle.guideline.specs.declared.entries.Entry.{Entry}
 use Rattle.guideline.specs.Bytes.{Lents, spelled}
-use Rattle.guideline.specs.Counts.{places-in, counted, list-after}
+use Rattle.guideline.specs.Counts.{places_in, counted, list_after}
 
 -- how many answers stand in the list
-abbrev pub how-many : Counted → ℕ
-how-many (All n) = n
-how-many (Refused why) = 0
+abbrev pub how_many : Counted → ℕ
+how_many (All n) = n
+how_many (Refused why) = 0
 
 abbrev pub AnswersEach : Lents → Entry → ℕ → ℕ → List ℕ → List ℕ → Counted → Type 0
-AnswersEach b e first last old new r = (r ≡ counted first last (places-in old)) × (new ≡ list-after (spelled b) e first last old)
+AnswersEach b e first last old new r = (r ≡ counted first last (places_in old)) × (new ≡ list_after (spelled b) e first last old)

@@ -2,10 +2,10 @@
 ghost use Rattle.std.specs.Prelude.{◌≡◌, ◌++◌, ◌+◌, ◌*◌, ◌≤◌, length, drop};
 ghost use Rattle.std.proofs.lemmas.List.Edits.{sets};
 ghost use Rattle.guideline.specs.Bytes.{lents, spelled};
-ghost use Rattle.guideline.specs.Check.{answer-length};
-ghost use Rattle.guideline.specs.Counts.{on-unless-given, counted, answers-from};
+ghost use Rattle.guideline.specs.Check.{answer_length};
+ghost use Rattle.guideline.specs.Counts.{on_unless_given, counted, answers_from};
 ghost use Rattle.ranges.specs.Soundly.{soundness};
-ghost use Rattle.each_count.specs.Each.{how-many, AnswersEach};
+ghost use Rattle.each_count.specs.Each.{how_many, AnswersEach};
 
 use guideline::answer::Answer;
 use guideline::counted::{Counted, RangeRefusal};
@@ -32,7 +32,7 @@ fn count(first: u32, last: u32, places: usize) -> Counted
 }
 
 fn how_many(counted: Counted) -> usize
-    ensures { result ≡ how-many counted }
+    ensures { result ≡ how_many counted }
 {
     match counted {
         Counted::All(n) => n,
@@ -53,7 +53,7 @@ fn put_numbers(list: &mut [u32], at: usize, numbers: &[u32])
 
 // P3: the range check "says on where its entry gives no setting".
 fn on_unless_given(e: Entry) -> Entry
-    ensures { result ≡ on-unless-given e }
+    ensures { result ≡ on_unless_given e }
 {
     let rest = e.rest;
     let months = rest.months;
@@ -75,8 +75,8 @@ fn put_answers(
     n: usize,
     list: &mut [u32],
 )
-    requires { (s ≡ soundness (lents t640.now t641.now t642.now t643.now t649.now t730.now t070.now)) × (n * answer-length ≤ length list.old) × (first + n ≤ 4_294_967_296) }
-    ensures { list.new ≡ answers-from (spelled (lents t640.now t641.now t642.now t643.now t649.now t730.now t070.now)) e first n ++ drop (n * answer-length) list.old }
+    requires { (s ≡ soundness (lents t640.now t641.now t642.now t643.now t649.now t730.now t070.now)) × (n * answer_length ≤ length list.old) × (first + n ≤ 4_294_967_296) }
+    ensures { list.new ≡ answers_from (spelled (lents t640.now t641.now t642.now t643.now t649.now t730.now t070.now)) e first n ++ drop (n * answer_length) list.old }
 {
     let asked = on_unless_given(e);
     let mut i: usize = 0;

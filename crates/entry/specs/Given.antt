@@ -5,6 +5,6 @@ use Rattle.guideline.specs.declared.entries.Value.TheVariants.{Blank, Given}
 use Rattle.guideline.specs.declared.range.Range.{Range}
 use Rattle.guideline.specs.Values.{within}
 
-abbrev pub within-if-given : Range → Value → Bool
-within-if-given r Blank = true
-within-if-given r (Given n) = within r n
+abbrev pub within_if_given : Range → Value → Bool
+within_if_given r Blank = true
+within_if_given r (Given n) = within r n

@@ -2,12 +2,12 @@
 ghost use Rattle.std.specs.Prelude.{◌≡◌, ◌+◌, ◌*◌, ◌≤◌, length};
 ghost use Rattle.decimals.specs.Put.{Put};
 ghost use Rattle.guideline.specs.Bytes.{lents, spelled};
-ghost use Rattle.guideline.specs.Check.{answer-length};
-ghost use Rattle.guideline.specs.Counts.{in-turn, numbers-at};
+ghost use Rattle.guideline.specs.Check.{answer_length};
+ghost use Rattle.guideline.specs.Counts.{in_turn, numbers_at};
 ghost use Rattle.each_count.specs.Each.{AnswersEach};
-ghost use Rattle.stream.specs.Cases.{most-places};
-ghost use Rattle.stream.specs.Lines.{line, longest-line};
-ghost use Rattle.entry_lines.specs.Lines.{Fitting, InList, counted-lines, range-lines, longest-range};
+ghost use Rattle.stream.specs.Cases.{most_places};
+ghost use Rattle.stream.specs.Lines.{line, longest_line};
+ghost use Rattle.entry_lines.specs.Lines.{Fitting, InList, counted_lines, range_lines, longest_range};
 
 use crate::Test;
 use each_count::{check_each, check_each_after};
@@ -51,8 +51,8 @@ fn answer(
 
 // The lines of the first n places.
 fn put_places(list: &[u32], n: usize, out: &mut [u8], at: usize) -> usize
-    requires { (n * answer-length ≤ length list.now) × (at + n * longest-line ≤ length out.old) }
-    ensures { Put out.old at (in-turn (λ i. line (numbers-at i list.now)) n) out.new result × (result ≤ at + n * longest-line) }
+    requires { (n * answer_length ≤ length list.now) × (at + n * longest_line ≤ length out.old) }
+    ensures { Put out.old at (in_turn (λ i. line (numbers_at i list.now)) n) out.new result × (result ≤ at + n * longest_line) }
 {
     let mut end = at;
     let mut i: usize = 0;
@@ -66,8 +66,8 @@ fn put_places(list: &[u32], n: usize, out: &mut [u8], at: usize) -> usize
 }
 
 fn put_counted(counted: Counted, list: &[u32], out: &mut [u8], at: usize) -> usize
-    requires { InList counted (length list.now) × (at + longest-range ≤ length out.old) }
-    ensures { Put out.old at (counted-lines (λ i. numbers-at i list.now) counted) out.new result × (result ≤ at + longest-range) }
+    requires { InList counted (length list.now) × (at + longest_range ≤ length out.old) }
+    ensures { Put out.old at (counted_lines (λ i. numbers_at i list.now) counted) out.new result × (result ≤ at + longest_range) }
 {
     match counted {
         Counted::All(n) => put_places(list, n, out, at),
@@ -91,8 +91,8 @@ fn put_by(
     out: &mut [u8],
     at: usize,
 ) -> usize
-    requires { Fitting test (lents t640.now t641.now t642.now t643.now t649.now t730.now t070.now) × (length list.old ≡ w.places * answer-length) × (at + longest-range ≤ length out.old) }
-    ensures { Put out.old at (range-lines (spelled (lents t640.now t641.now t642.now t643.now t649.now t730.now t070.now)) e w) out.new result × (result ≤ at + longest-range) }
+    requires { Fitting test (lents t640.now t641.now t642.now t643.now t649.now t730.now t070.now) × (length list.old ≡ w.places * answer_length) × (at + longest_range ≤ length out.old) }
+    ensures { Put out.old at (range_lines (spelled (lents t640.now t641.now t642.now t643.now t649.now t730.now t070.now)) e w) out.new result × (result ≤ at + longest_range) }
 {
     let counted = answer(
         test, t640, t641, t642, t643, t649, t730, t070, e, w.first, w.last, list,
@@ -114,8 +114,8 @@ pub fn put(
     out: &mut [u8],
     at: usize,
 ) -> usize
-    requires { Fitting test (lents t640.now t641.now t642.now t643.now t649.now t730.now t070.now) × (w.places ≤ most-places) × (at + longest-range ≤ length out.old) }
-    ensures { Put out.old at (range-lines (spelled (lents t640.now t641.now t642.now t643.now t649.now t730.now t070.now)) e w) out.new result × (result ≤ at + longest-range) }
+    requires { Fitting test (lents t640.now t641.now t642.now t643.now t649.now t730.now t070.now) × (w.places ≤ most_places) × (at + longest_range ≤ length out.old) }
+    ensures { Put out.old at (range_lines (spelled (lents t640.now t641.now t642.now t643.now t649.now t730.now t070.now)) e w) out.new result × (result ≤ at + longest_range) }
 {
     let mut list = [0u32; LIST];
     let n = w.places as usize * Answer::LENGTH;

@@ -3,8 +3,8 @@ ghost use Rattle.std.specs.Prelude.{◌≡◌, ◌+◌, ◌≤◌, length};
 ghost use Rattle.decimals.specs.Put.{Put};
 ghost use Rattle.guideline.specs.Bytes.{lents, spelled};
 ghost use Rattle.guideline.specs.Check.{check};
-ghost use Rattle.stream.specs.Lines.{longest-line};
-ghost use Rattle.entry_lines.specs.Lines.{Fitting, answer-line};
+ghost use Rattle.stream.specs.Lines.{longest_line};
+ghost use Rattle.entry_lines.specs.Lines.{Fitting, answer_line};
 
 use crate::Test;
 use guideline::answer::Answer;
@@ -43,8 +43,8 @@ pub fn put(
     out: &mut [u8],
     at: usize,
 ) -> usize
-    requires { Fitting test (lents t640.now t641.now t642.now t643.now t649.now t730.now t070.now) × (at + longest-line ≤ length out.old) }
-    ensures { Put out.old at (answer-line (spelled (lents t640.now t641.now t642.now t643.now t649.now t730.now t070.now)) e) out.new result × (result ≤ at + longest-line) }
+    requires { Fitting test (lents t640.now t641.now t642.now t643.now t649.now t730.now t070.now) × (at + longest_line ≤ length out.old) }
+    ensures { Put out.old at (answer_line (spelled (lents t640.now t641.now t642.now t643.now t649.now t730.now t070.now)) e) out.new result × (result ≤ at + longest_line) }
 {
     let a = answer(test, t640, t641, t642, t643, t649, t730, t070, e);
     stream::lines::put_line(a, out, at)

@@ -6,15 +6,15 @@ use lib.Dec.{ltb}
 use Rattle.exact.specs.Wide.{wide}
 
 -- the largest product of a day dose is 9,989,999,989,011,000,000,999, of 74 bits
-pub largest-dose : wide ((999_999_999 * 999) * 9_999_999_999) ≡ record { high = 541; low = 10_311_445_134_132_576_743 }
-largest-dose = refl
+pub largest_dose : wide ((999_999_999 * 999) * 9_999_999_999) ≡ record { high = 541; low = 10_311_445_134_132_576_743 }
+largest_dose = refl
 
 -- the largest of all takes every carry
 pub largest : wide ((2 ^ 64 - 1) * (2 ^ 64 - 1)) ≡ record { high = 2 ^ 64 - 2; low = 1 }
 largest = refl
 
-pub largest-is-not-below-itself : ltb ((2 ^ 64 - 1) * (2 ^ 64 - 1)) ((2 ^ 64 - 1) * (2 ^ 64 - 1)) ≡ false
-largest-is-not-below-itself = refl
+pub largest_is_not_below_itself : ltb ((2 ^ 64 - 1) * (2 ^ 64 - 1)) ((2 ^ 64 - 1) * (2 ^ 64 - 1)) ≡ false
+largest_is_not_below_itself = refl
 
 -- two products of 22 digits that differ by 999: their high limbs are equal, and the low limbs decide
 pub near : wide ((999_999_998 * 999) * 8_999_999_992) ≡ record { high = 487; low = 7_435_610_129_448_378_992 }
@@ -23,23 +23,23 @@ near = refl
 pub nearer : wide ((999_999_999 * 999) * 8_999_999_983) ≡ record { high = 487; low = 7_435_610_129_448_379_991 }
 nearer = refl
 
-pub low-limbs-decide : ltb ((999_999_998 * 999) * 8_999_999_992) ((999_999_999 * 999) * 8_999_999_983) ≡ true
-low-limbs-decide = refl
+pub low_limbs_decide : ltb ((999_999_998 * 999) * 8_999_999_992) ((999_999_999 * 999) * 8_999_999_983) ≡ true
+low_limbs_decide = refl
 
-pub not-the-other-way : ltb ((999_999_999 * 999) * 8_999_999_983) ((999_999_998 * 999) * 8_999_999_992) ≡ false
-not-the-other-way = refl
+pub not_the_other_way : ltb ((999_999_999 * 999) * 8_999_999_983) ((999_999_998 * 999) * 8_999_999_992) ≡ false
+not_the_other_way = refl
 
 -- equal products of other factors: 30 drops 2 times, at 1,000 to 20,000, are 1.5 ml 2 times
-pub equal-is-not-below : ltb ((30_000 * 2) * 1_000) ((1_500 * 2) * 20_000) ≡ false
-equal-is-not-below = refl
+pub equal_is_not_below : ltb ((30_000 * 2) * 1_000) ((1_500 * 2) * 20_000) ≡ false
+equal_is_not_below = refl
 
-pub equal-is-not-above : ltb ((1_500 * 2) * 20_000) ((30_000 * 2) * 1_000) ≡ false
-equal-is-not-above = refl
+pub equal_is_not_above : ltb ((1_500 * 2) * 20_000) ((30_000 * 2) * 1_000) ≡ false
+equal_is_not_above = refl
 
 -- 2 to the 64th is not below 1
-pub past-64-bits : ltb (2 ^ 32 * 2 ^ 32) (1 * 1) ≡ false
-past-64-bits = refl
+pub past_64_bits : ltb (2 ^ 32 * 2 ^ 32) (1 * 1) ≡ false
+past_64_bits = refl
 
 -- cut to 64 bits it would be 0, and below 1
-pub cut-errs : ltb ((2 ^ 32 * 2 ^ 32) % 2 ^ 64) ((1 * 1) % 2 ^ 64) ≡ true
-cut-errs = refl
+pub cut_errs : ltb ((2 ^ 32 * 2 ^ 32) % 2 ^ 64) ((1 * 1) % 2 ^ 64) ≡ true
+cut_errs = refl

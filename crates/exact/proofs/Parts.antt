@@ -12,8 +12,8 @@ use Rattle.exact.specs.declared.Wide.{Wide}
 use Rattle.exact.specs.Wide.{half, limb, wide, number, Partial}
 
 -- the limbs of a number make it again
-pub number-wide : (n : ℕ) → number (wide n) ≡ n
-number-wide n = div-add-mod' n limb
+pub number_wide : (n : ℕ) → number (wide n) ≡ n
+number_wide n = div-add-mod' n limb
 
 -- two limbs that make a number are its own
 pub limbs : (w : Wide) (n : ℕ) → number w ≡ n → w.low < limb → w ≡ wide n
@@ -47,8 +47,8 @@ told false m n f g = rw (le-ltb m n (g refl))
 
 -- the high limbs decide; where they are equal, the low limbs do
 module _ (x y : Wide) (t : Bool) where
-  pub equal-high : x.high ≡ y.high → (t ≡ true → x.low < y.low) → (t ≡ false → y.low ≤ x.low) → t ≡ ltb (number x) (number y)
-  equal-high e f g = told t (number x) (number y) (λ h. omega (arith, f h)) (λ h. omega (arith, g h))
+  pub equal_high : x.high ≡ y.high → (t ≡ true → x.low < y.low) → (t ≡ false → y.low ≤ x.low) → t ≡ ltb (number x) (number y)
+  equal_high e f g = told t (number x) (number y) (λ h. omega (arith, f h)) (λ h. omega (arith, g h))
 
-  pub other-high : x.low < limb → y.low < limb → (t ≡ true → x.high < y.high) → (t ≡ false → y.high < x.high) → t ≡ ltb (number x) (number y)
-  other-high k l f g = told t (number x) (number y) (λ h. omega (arith, f h)) (λ h. omega (arith, g h))
+  pub other_high : x.low < limb → y.low < limb → (t ≡ true → x.high < y.high) → (t ≡ false → y.high < x.high) → t ≡ ltb (number x) (number y)
+  other_high k l f g = told t (number x) (number y) (λ h. omega (arith, f h)) (λ h. omega (arith, g h))

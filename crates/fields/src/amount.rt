@@ -1,6 +1,6 @@
 // An amount of table 730 (CDHOEV), as step 1 (122) and step 2 (127, 128) test it.
 ghost use Rattle.std.specs.Prelude.{◌≡◌};
-ghost use Rattle.guideline.specs.Values.{amount-in-range, amount-zero, amount-large};
+ghost use Rattle.guideline.specs.Values.{amount_in_range, amount_zero, amount_large};
 
 #[derive(Drop)]
 pub struct Amount {
@@ -13,19 +13,19 @@ impl Amount {
     pub const MOST_CONVERTED: u64 = 9_999_999_999;
 
     pub fn in_range(self) -> bool
-        ensures { result ≡ amount-in-range self.cdhoev }
+        ensures { result ≡ amount_in_range self.cdhoev }
     {
         self.cdhoev <= Amount::MOST
     }
 
     pub fn is_zero(self) -> bool
-        ensures { result ≡ amount-zero self.cdhoev }
+        ensures { result ≡ amount_zero self.cdhoev }
     {
         self.cdhoev == 0
     }
 
     pub fn is_large(self) -> bool
-        ensures { result ≡ amount-large self.cdhoev }
+        ensures { result ≡ amount_large self.cdhoev }
     {
         Amount::MOST_CONVERTED < self.cdhoev
     }

@@ -1,6 +1,6 @@
 // The ranges of the fields, document 01's and the requests'.
 ghost use Rattle.std.specs.Prelude.{◌≡◌};
-ghost use Rattle.guideline.specs.Values.{codes, codes-from-1, units, counts, counts-of-070, doses, limits, ages, weights, surfaces, sexes, sexes-of-640, risks, levels, care-groups, icpctos, positions, editions};
+ghost use Rattle.guideline.specs.Values.{codes, codes_from_1, units, counts, counts_of_070, doses, limits, ages, weights, surfaces, sexes, sexes_of_640, risks, levels, care_groups, icpctos, positions, editions};
 
 use guideline::entries::{Prescription, Switch};
 use guideline::range::Range;
@@ -33,7 +33,7 @@ pub fn codes() -> Range
 
 // GPDBAS, GPDCAT and GPDDNR, and a PRK or HPK that is given.
 pub fn codes_from_1() -> Range
-    ensures { result ≡ codes-from-1 }
+    ensures { result ≡ codes_from_1 }
 {
     Range { low: 1, high: CODE }
 }
@@ -55,7 +55,7 @@ pub fn counts() -> Range
 
 // HPANPR, PRANGP and HPANGP, six digits wide.
 pub fn counts_of_070() -> Range
-    ensures { result ≡ counts-of-070 }
+    ensures { result ≡ counts_of_070 }
 {
     Range {
         low: 0,
@@ -110,7 +110,7 @@ pub fn sexes() -> Range
 }
 
 pub fn sexes_of_640() -> Range
-    ensures { result ≡ sexes-of-640 }
+    ensures { result ≡ sexes_of_640 }
 {
     Range {
         low: Row640::MAN,
@@ -137,7 +137,7 @@ pub fn levels() -> Range
 }
 
 pub fn care_groups() -> Range
-    ensures { result ≡ care-groups }
+    ensures { result ≡ care_groups }
 {
     Range {
         low: Setting::INTENSIVE_CARE,

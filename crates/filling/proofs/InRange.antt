@@ -9,35 +9,35 @@ use Rattle.guideline.specs.declared.entries.Value.TheVariants.{Blank, Given}
 use Rattle.guideline.specs.declared.refusals.Ending.TheVariants.{HpkRowsSeveral, HpkRowDiffers}
 use Rattle.guideline.specs.declared.rows.Row070.{Row070}
 use Rattle.guideline.specs.declared.rows.TableName.TheVariants.{T070}
-use Rattle.guideline.specs.Ask.{Done, ◌>>=◌, ◌>>◌, Chosen, run, no-data}
+use Rattle.guideline.specs.Ask.{Done, ◌>>=◌, ◌>>◌, Chosen, run, no_data}
 use Rattle.guideline.specs.Table.{Table, Hits, None, One, Many}
-use Rattle.guideline.specs.Rows.{keyed, sound-row}
-use Rattle.guideline.specs.Entries.{in-range}
+use Rattle.guideline.specs.Rows.{keyed, sound_row}
+use Rattle.guideline.specs.Entries.{in_range}
 use Rattle.guideline.specs.Forms.{when, refuse, demand, choose}
-use Rattle.guideline.specs.Filling.{of-hpk, agrees, filled-by, filling}
+use Rattle.guideline.specs.Filling.{of_hpk, agrees, filled_by, filling}
 use Rattle.guideline.proofs.Gives.{Gives}
-use Rattle.guideline.proofs.FilledEntry.{filled-in-range}
+use Rattle.guideline.proofs.FilledEntry.{filled_in_range}
 
 abbrev InRange : Row070 → Type 0
-InRange r = sound-row T070 r ≡ true
+InRange r = sound_row T070 r ≡ true
 
-hpk-row : (t : Table Row070) → Gives InRange t → (v : Value) (r : Row070) → of-hpk t v ≡ One r → InRange r
-unfolding of-hpk
-hpk-row t gives Blank r h = absurd (let z : ◌≡◌ {A = ℕ} 0 1 = cc in omega arith)
-hpk-row t gives (Given hpk) r h = gives (keyed T070 hpk) r h
+hpk_row : (t : Table Row070) → Gives InRange t → (v : Value) (r : Row070) → of_hpk t v ≡ One r → InRange r
+unfolding of_hpk
+hpk_row t gives Blank r h = absurd (let z : ◌≡◌ {A = ℕ} 0 1 = cc in omega arith)
+hpk_row t gives (Given hpk) r h = gives (keyed T070 hpk) r h
 
 module _ (e : Entry) (f : Entry) where
-  of_row : (r : Row070) → InRange r → (s : Bool) → run no-data (demand s HpkRowDiffers >> Done (filled-by r e)) ≡ Chosen f → in-range f ≡ in-range e
+  of_row : (r : Row070) → InRange r → (s : Bool) → run no_data (demand s HpkRowDiffers >> Done (filled_by r e)) ≡ Chosen f → in_range f ≡ in_range e
   unfolding demand when refuse ◌>>◌ ◌>>=◌
-  of_row r h true m = let same : filled-by r e ≡ f = cc in ap in-range (sym same) ∙ filled-in-range r h e
+  of_row r h true m = let same : filled_by r e ≡ f = cc in ap in_range (sym same) ∙ filled_in_range r h e
   of_row r h false m = absurd (let z : ◌≡◌ {A = ℕ} 0 1 = cc in omega arith)
 
-  of-rows : (h : Hits Row070) → ((r : Row070) → h ≡ One r → InRange r) → run no-data (choose h (Done e) (λ r. demand (agrees r e) HpkRowDiffers >> Done (filled-by r e)) (refuse HpkRowsSeveral)) ≡ Chosen f → in-range f ≡ in-range e
+  of_rows : (h : Hits Row070) → ((r : Row070) → h ≡ One r → InRange r) → run no_data (choose h (Done e) (λ r. demand (agrees r e) HpkRowDiffers >> Done (filled_by r e)) (refuse HpkRowsSeveral)) ≡ Chosen f → in_range f ≡ in_range e
   unfolding choose refuse
-  of-rows None g m = let same : e ≡ f = cc in ap in-range (sym same)
-  of-rows (One r) g m = of_row r (g r refl) (agrees r e) m
-  of-rows (Many n) g m = absurd (let z : ◌≡◌ {A = ℕ} 0 1 = cc in omega arith)
+  of_rows None g m = let same : e ≡ f = cc in ap in_range (sym same)
+  of_rows (One r) g m = of_row r (g r refl) (agrees r e) m
+  of_rows (Many n) g m = absurd (let z : ◌≡◌ {A = ℕ} 0 1 = cc in omega arith)
 
-  pub filling-in-range : (t : Table Row070) → Gives InRange t → run no-data (filling t e) ≡ Chosen f → in-range f ≡ in-range e
+  pub filling_in_range : (t : Table Row070) → Gives InRange t → run no_data (filling t e) ≡ Chosen f → in_range f ≡ in_range e
   unfolding filling
-  filling-in-range t gives m = of-rows (of-hpk t e.known.hpk) (hpk-row t gives e.known.hpk) m
+  filling_in_range t gives m = of_rows (of_hpk t e.known.hpk) (hpk_row t gives e.known.hpk) m

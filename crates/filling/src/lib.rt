@@ -1,7 +1,7 @@
 // P5, "Let the HPK bring its PRK": before step 2, table 70 fills a blank PRK and a GPK of 0.
 ghost use Rattle.std.specs.Prelude.{◌≡◌};
 ghost use Rattle.guideline.specs.declared.rows.TableName.TheVariants.{T070};
-ghost use Rattle.guideline.specs.Filling.{same-prk, same-gpk, agrees, prk-filled, gpk-filled, filled-by};
+ghost use Rattle.guideline.specs.Filling.{same_prk, same_gpk, agrees, prk_filled, gpk_filled, filled_by};
 ghost use Rattle.cells.specs.Lents.{rows};
 ghost use Rattle.keys.specs.Seen.{Sees};
 ghost use Rattle.filling.specs.Fills.{Fills, refusal, by_row, by_rows};
@@ -33,7 +33,7 @@ impl Filled {
 
 // A blank PRK does not differ from the row.
 fn same_prk(r: Row070, prk: Value) -> bool
-    ensures { result ≡ same-prk r prk }
+    ensures { result ≡ same_prk r prk }
 {
     match prk {
         Value::Blank => true,
@@ -43,7 +43,7 @@ fn same_prk(r: Row070, prk: Value) -> bool
 
 // A GPK of 0 does not differ from the row.
 fn same_gpk(r: Row070, gpk: u32) -> bool
-    ensures { result ≡ same-gpk r gpk }
+    ensures { result ≡ same_gpk r gpk }
 {
     either(gpk == Prescription::NO_GPK, gpk == r.gpkode)
 }
@@ -58,7 +58,7 @@ fn agrees(r: Row070, e: Entry) -> bool
 
 // What is given stays.
 fn prk_filled(r: Row070, prk: Value) -> Value
-    ensures { result ≡ prk-filled r prk }
+    ensures { result ≡ prk_filled r prk }
 {
     match prk {
         Value::Blank => Value::Given(r.prkode),
@@ -67,7 +67,7 @@ fn prk_filled(r: Row070, prk: Value) -> Value
 }
 
 fn gpk_filled(r: Row070, gpk: u32) -> u32
-    ensures { result ≡ gpk-filled r gpk }
+    ensures { result ≡ gpk_filled r gpk }
 {
     if gpk == Prescription::NO_GPK {
         return r.gpkode;
@@ -76,7 +76,7 @@ fn gpk_filled(r: Row070, gpk: u32) -> u32
 }
 
 fn filled_by(r: Row070, e: Entry) -> Entry
-    ensures { result ≡ filled-by r e }
+    ensures { result ≡ filled_by r e }
 {
     let d = e.known;
     let age = d.age;

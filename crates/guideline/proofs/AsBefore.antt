@@ -1,5 +1,5 @@
 -- P4: "With the setting off the other eight numbers are as before." Below is the check without P4: step 9 ends with its signal, and 125 does not look at
--- quiet. With quiet off or not given the check answers what that does (`as_before`), and nothing is suppressed (`nothing-suppressed`).
+-- quiet. With quiet off or not given the check answers what that does (`as_before`), and nothing is suppressed (`nothing_suppressed`).
 use Prim.Native.Nat.{ℕ, suc, ◌≤◌, ◌<◌}
 use mathlib.Core.Path.{◌≡◌, refl, sym, ◌∙◌, ap, ap₂, subst, fun_ext}
 use mathlib.Core.Bool.{Bool, true, false, cond, not, ◌&&◌, ◌||◌}
@@ -7,128 +7,128 @@ use native.Mathlib.Nat.{le_refl, le_trans, le_of_lt}
 use borrow.Author.Tests.{eqb-true}
 use lib.Dec.{T, eqb, leb, ltb, lit≤, le→leb, lt→ltb}
 use Rattle.guideline.specs.Types.{Switch, NotGiven, Position, Prescription, Entry, Answer, T640, T641, T642, T643, T649, T730, Ending, Refusal, Asks, Ends, Reached, Ratio, Context, Selected}
-use Rattle.guideline.specs.Values.{within, codes, off, switched, setting-entered}
-use Rattle.guideline.specs.Ask.{Plan, Done, Step, ◌>>=◌, ◌>>◌, at, Outcome, Chosen, Refused, run, after, chosen-or, no-data}
+use Rattle.guideline.specs.Values.{within, codes, off, switched, setting_entered}
+use Rattle.guideline.specs.Ask.{Plan, Done, Step, ◌>>=◌, ◌>>◌, at, Outcome, Chosen, Refused, run, after, chosen_or, no_data}
 use Rattle.guideline.specs.Table.{Table, some, among}
 use Rattle.guideline.specs.Rows.{Row, keyed, Tables}
-use Rattle.guideline.specs.Entries.{datum, datum-in-range, each, switch-in-range, edition-in-range, setting-in-range, dose-in-range, units-in-range, prescription-in-range, in-range}
-use Rattle.guideline.specs.Edition.{in-edition}
+use Rattle.guideline.specs.Entries.{datum, datum_in_range, each, switch_in_range, edition_in_range, setting_in_range, dose_in_range, units_in_range, prescription_in_range, in_range}
+use Rattle.guideline.specs.Edition.{in_edition}
 use Rattle.guideline.specs.Order.{line, place}
 use Rattle.guideline.specs.Forms.{when, refuse}
-use Rattle.guideline.specs.Quiet.{may-suppress, suppresses}
-use Rattle.guideline.specs.Steps.{ratio, product, person, level, setting, few, by-age, exact, twin, signal, no-frequency, by-frequency, by-weight, by-surface, one-row, of-rows, dose-row, limits_of, comparison, nothing, to-basis, to-category, to-rule, selection, Verdict, over-sound, before-step-2}
-use Rattle.guideline.specs.Check.{up-to-step-2, from-step-2, outcome, answer, check}
-use Rattle.guideline.proofs.AllRefusals.{refusals, all, of-every-refusal}
-use Rattle.guideline.proofs.Rise.{Rises, rises-done, rises-stop, rises-ask, rises-when}
-use Rattle.guideline.proofs.Steady.{sound-rises, filling-rises, ratio-rises, product-rises, person-rises, level-rises, setting-rises, few-rises, by-age-rises, stands-rises, by-weight-rises, by-surface-rises, one-row-rises, limits-of-rises}
-use Rattle.guideline.proofs.Holds.{Holds, holds-done, holds-stop, holds-ask, holds-bind, holds_then, run_holds, Comes}
-use Rattle.guideline.proofs.AfterFilling.{keeps-step-2}
-use Rattle.guideline.proofs.InEdition.{none-suppressed}
+use Rattle.guideline.specs.Quiet.{may_suppress, suppresses}
+use Rattle.guideline.specs.Steps.{ratio, product, person, level, setting, few, by_age, exact, twin, signal, no_frequency, by_frequency, by_weight, by_surface, one_row, of_rows, dose_row, limits_of, comparison, nothing, to_basis, to_category, to_rule, selection, Verdict, over_sound, before_step_2}
+use Rattle.guideline.specs.Check.{up_to_step_2, from_step_2, outcome, answer, check}
+use Rattle.guideline.proofs.AllRefusals.{refusals, all, of_every_refusal}
+use Rattle.guideline.proofs.Rise.{Rises, rises_done, rises_stop, rises_ask, rises_when}
+use Rattle.guideline.proofs.Steady.{sound_rises, filling_rises, ratio_rises, product_rises, person_rises, level_rises, setting_rises, few_rises, by_age_rises, stands_rises, by_weight_rises, by_surface_rises, one_row_rises, limits_of_rises}
+use Rattle.guideline.proofs.Holds.{Holds, holds_done, holds_stop, holds_ask, holds_bind, holds_then, run_holds, Comes}
+use Rattle.guideline.proofs.AfterFilling.{keeps_step_2}
+use Rattle.guideline.proofs.InEdition.{none_suppressed}
 
 -- steps 2 to 12 with any step 9
 abbrev pub StepNine : Type 0
 StepNine = Prescription → Context → Table (Row T643) → Step (Table (Row T643))
 
-unfoldable pub rows-with : StepNine → Prescription → Context → Table (Row T643) → Step (Row T643)
-rows-with nine e c t = do
+unfoldable pub rows_with : StepNine → Prescription → Context → Table (Row T643) → Step (Row T643)
+rows_with nine e c t = do
   few t
-  a ← by-age c.age t
+  a ← by_age c.age t
   f ← nine e c a
-  w ← by-weight f
-  s ← by-surface w
-  one-row s
+  w ← by_weight f
+  s ← by_surface w
+  one_row s
 
-unfoldable pub over-sound-with : StepNine → Tables → Prescription → Plan Reached Verdict
-over-sound-with nine t e = do
+unfoldable pub over_sound_with : StepNine → Tables → Prescription → Plan Reached Verdict
+over_sound_with nine t e = do
   q ← at nothing (ratio (t.rows T730) e)
   s ← selected q
-  Done (record { compared = comparison e s; reached = to-rule s.context s.row })
+  Done (record { compared = comparison e s; reached = to_rule s.context s.row })
   where
     selected : Ratio → Plan Reached Selected
     selected q = do
       p ← at nothing (product (t.rows T640) e.gpk)
       age ← at nothing (person p)
       l ← at nothing (level (t.rows T641) e.gpk)
-      s ← at (to-basis l) (setting (t.rows T642) (setting-entered e) l.gpdbas)
+      s ← at (to_basis l) (setting (t.rows T642) (setting_entered e) l.gpdbas)
       let c : Context = record { ratio = q; product = p; age = age; level = l; setting = s }
-      x ← at (to-category c) (rows-with nine e c (among (keyed T643 c.setting.gpdcat) (t.rows T643)))
-      m ← at (to-rule c x) (limits_of (t.rows T649) x.gpddnr)
+      x ← at (to_category c) (rows_with nine e c (among (keyed T643 c.setting.gpdcat) (t.rows T643)))
+      m ← at (to_rule c x) (limits_of (t.rows T649) x.gpddnr)
       Done (record { context = c; row = x; limits = m })
 
-over-sound-is : (t : Tables) (e : Prescription) → over-sound t e ≡ over-sound-with (by-frequency (t.rows T649)) t e
-unfolding over-sound selection dose-row of-rows over-sound-with rows-with
-over-sound-is t e = refl
+over_sound_is : (t : Tables) (e : Prescription) → over_sound t e ≡ over_sound_with (by_frequency (t.rows T649)) t e
+unfolding over_sound selection dose_row of_rows over_sound_with rows_with
+over_sound_is t e = refl
 
 -- step 9 before P4: "None: 115 .., else 116 .., else 117"
-unfoldable pub frequency-before : StepNine
-frequency-before e c t =
+unfoldable pub frequency_before : StepNine
+frequency_before e c t =
     when (some (t (exact e))) (Done (among (exact e) t))
     (when (some (t (twin e))) (Done (among (twin e) t)) (refuse (Ending.NoFrequency (signal e t))))
 
 -- 125 without quiet
-unfoldable pub in-range-before : Entry → Bool
-in-range-before e =
+unfoldable pub in_range_before : Entry → Bool
+in_range_before e =
     (within codes e.rest.gpk
-    && (setting-in-range e.rest
-    && (dose-in-range e.rest
-    && (units-in-range e.rest && (switch-in-range e.rest.months && edition-in-range e.rest.edition)))))
-    && each (λ x. datum-in-range x (datum e.known x))
+    && (setting_in_range e.rest
+    && (dose_in_range e.rest
+    && (units_in_range e.rest && (switch_in_range e.rest.months && edition_in_range e.rest.edition)))))
+    && each (λ x. datum_in_range x (datum e.known x))
 
-unfoldable pub from-step-2-before : Tables → Entry → Outcome Reached Verdict
-from-step-2-before t f = run (datum f.known) (over-sound-with frequency-before t f.rest)
+unfoldable pub from_step_2_before : Tables → Entry → Outcome Reached Verdict
+from_step_2_before t f = run (datum f.known) (over_sound_with frequency_before t f.rest)
 
-unfoldable pub outcome-before : Tables → Entry → Outcome Reached Verdict
-outcome-before t e =
-    cond (in-range-before e) (after (up-to-step-2 t e) (from-step-2-before t)) (Refused (Ends Ending.EntryOutOfRange) nothing)
+unfoldable pub outcome_before : Tables → Entry → Outcome Reached Verdict
+outcome_before t e =
+    cond (in_range_before e) (after (up_to_step_2 t e) (from_step_2_before t)) (Refused (Ends Ending.EntryOutOfRange) nothing)
 
-unfoldable pub check-before : Tables → Entry → Answer
-check-before t e = in-edition e.rest.edition (answer (outcome-before t e))
+unfoldable pub check_before : Tables → Entry → Answer
+check_before t e = in_edition e.rest.edition (answer (outcome_before t e))
 
 -- off, or not given
 abbrev pub Off : Switch → Type 0
-Off s = (switched s ≡ false) × (switch-in-range s ≡ true)
+Off s = (switched s ≡ false) × (switch_in_range s ≡ true)
 
-pub not-given-is-off : Off NotGiven
-not-given-is-off = (refl, refl)
+pub not_given_is_off : Off NotGiven
+not_given_is_off = (refl, refl)
 
-pub off-is-off : Off (Position off)
-off-is-off = (refl, refl)
+pub off_is_off : Off (Position off)
+off_is_off = (refl, refl)
 
 module _ (e : Prescription) (o : Off e.quiet) where
-  same-frequency : (limits : Table (Row T649)) (c : Context) (t : Table (Row T643)) → by-frequency limits e c t ≡ frequency-before e c t
-  unfolding by-frequency no-frequency suppresses may-suppress frequency-before when ◌>>=◌
-  same-frequency limits c t = rw o.0
+  same_frequency : (limits : Table (Row T649)) (c : Context) (t : Table (Row T643)) → by_frequency limits e c t ≡ frequency_before e c t
+  unfolding by_frequency no_frequency suppresses may_suppress frequency_before when ◌>>=◌
+  same_frequency limits c t = rw o.0
 
   -- step 9 is the only step that differs
-  same-steps : (t : Tables) → over-sound t e ≡ over-sound-with frequency-before t e
-  unfolding over-sound-with rows-with
-  same-steps t = over-sound-is t e ∙ ap (λ (nine : Context → Table (Row T643) → Step (Table (Row T643))). over-sound-with (λ p. nine) t e) (fun_ext (λ c. fun_ext (λ a. same-frequency (t.rows T649) c a)))
+  same_steps : (t : Tables) → over_sound t e ≡ over_sound_with frequency_before t e
+  unfolding over_sound_with rows_with
+  same_steps t = over_sound_is t e ∙ ap (λ (nine : Context → Table (Row T643) → Step (Table (Row T643))). over_sound_with (λ p. nine) t e) (fun_ext (λ c. fun_ext (λ a. same_frequency (t.rows T649) c a)))
 
 -- table 70 fills no setting
-quiet-stays : (t : Tables) (e : Entry) → (chosen-or e (up-to-step-2 t e)).rest.quiet ≡ e.rest.quiet
-quiet-stays t e = ap (λ (p : Prescription). p.quiet) (keeps-step-2 t e).rest
+quiet_stays : (t : Tables) (e : Entry) → (chosen_or e (up_to_step_2 t e)).rest.quiet ≡ e.rest.quiet
+quiet_stays t e = ap (λ (p : Prescription). p.quiet) (keeps_step_2 t e).rest
 
 module _ (e : Entry) (o : Off e.rest.quiet) where
-  same-range : in-range e ≡ in-range-before e
-  unfolding in-range in-range-before prescription-in-range
-  same-range = rw o.1 refl
+  same_range : in_range e ≡ in_range_before e
+  unfolding in_range in_range_before prescription_in_range
+  same_range = rw o.1 refl
 
-  same-from-step-2 : (t : Tables) → after (up-to-step-2 t e) (from-step-2 t) ≡ after (up-to-step-2 t e) (from-step-2-before t)
-  unfolding from-step-2 from-step-2-before
-  same-from-step-2 t = go (up-to-step-2 t e) (subst Off (sym (quiet-stays t e)) o)
+  same_from_step_2 : (t : Tables) → after (up_to_step_2 t e) (from_step_2 t) ≡ after (up_to_step_2 t e) (from_step_2_before t)
+  unfolding from_step_2 from_step_2_before
+  same_from_step_2 t = go (up_to_step_2 t e) (subst Off (sym (quiet_stays t e)) o)
     where
-      go : (u : Outcome Reached Entry) → Off (chosen-or e u).rest.quiet → after u (from-step-2 t) ≡ after u (from-step-2-before t)
-      go (Chosen f) h = ap (run (datum f.known)) (same-steps f.rest h t)
+      go : (u : Outcome Reached Entry) → Off (chosen_or e u).rest.quiet → after u (from_step_2 t) ≡ after u (from_step_2_before t)
+      go (Chosen f) h = ap (run (datum f.known)) (same_steps f.rest h t)
       go (Refused r g) h = refl
 
-  same_outcome : (t : Tables) → outcome t e ≡ outcome-before t e
-  unfolding outcome outcome-before
+  same_outcome : (t : Tables) → outcome t e ≡ outcome_before t e
+  unfolding outcome outcome_before
   same_outcome t =
-      ap₂ (λ (b : Bool) (u : Outcome Reached Verdict). cond b u (Refused (Ends Ending.EntryOutOfRange) nothing)) same-range (same-from-step-2 t)
+      ap₂ (λ (b : Bool) (u : Outcome Reached Verdict). cond b u (Refused (Ends Ending.EntryOutOfRange) nothing)) same_range (same_from_step_2 t)
 
-  pub as_before : (t : Tables) → check t e ≡ check-before t e
-  unfolding check check-before
-  as_before t = ap (λ (u : Outcome Reached Verdict). in-edition e.rest.edition (answer u)) (same_outcome t)
+  pub as_before : (t : Tables) → check t e ≡ check_before t e
+  unfolding check check_before
+  as_before t = ap (λ (u : Outcome Reached Verdict). in_edition e.rest.edition (answer u)) (same_outcome t)
 
 -- no test of the check as it was suppresses a signal: those that do stand from 903 to 905
 abbrev Calm : {G : Type 0} → Refusal → G → Type 0
@@ -137,74 +137,74 @@ Calm r g = (line r).suppressed ≡ 0
 abbrev Whatever : {A : Type 0} → A → Type 0
 Whatever a = Unit {0}
 
-abbrev calm-between : ℕ → ℕ → Refusal → Bool
-calm-between lo hi r = not (leb lo (place r) && ltb (place r) hi) || eqb (line r).suppressed 0
+abbrev calm_between : ℕ → ℕ → Refusal → Bool
+calm_between lo hi r = not (leb lo (place r) && ltb (place r) hi) || eqb (line r).suppressed 0
 
-calm-place : (lo hi : ℕ) → T (all (calm-between lo hi) refusals) → (r : Refusal) → lo ≤ place r → place r < hi → (line r).suppressed ≡ 0
-calm-place lo hi c r l m =
-    go (leb lo (place r)) (ltb (place r) hi) (eqb (line r).suppressed 0) refl (le→leb lo (place r) l) (lt→ltb (place r) hi m) (of-every-refusal (calm-between lo hi) c r)
+calm_place : (lo hi : ℕ) → T (all (calm_between lo hi) refusals) → (r : Refusal) → lo ≤ place r → place r < hi → (line r).suppressed ≡ 0
+calm_place lo hi c r l m =
+    go (leb lo (place r)) (ltb (place r) hi) (eqb (line r).suppressed 0) refl (le→leb lo (place r) l) (lt→ltb (place r) hi m) (of_every_refusal (calm_between lo hi) c r)
   where
     go : (p q b : Bool) → eqb (line r).suppressed 0 ≡ b → T p → T q → T (not (p && q) || b) → (line r).suppressed ≡ 0
     go true true true e _ _ k = eqb-true (line r).suppressed 0 e
 
-calm-rises : {A : Type 0} {lo hi : ℕ} {p : Step A} → Rises lo hi p → ((r : Refusal) → lo ≤ place r → place r < hi → (line r).suppressed ≡ 0) → Holds Calm Whatever p
-calm-rises (rises-done h) m = holds-done tt
-calm-rises (rises-stop {r = r} h h') m = holds-stop (m (Ends r) h h')
-calm-rises (rises-ask {q = q} h h' s) m =
-    holds-ask (m (Asks q) h h') (λ n. calm-rises (s n) (λ r a b. m r (le_trans h (le_trans (le_of_lt (le_refl (suc (place (Asks q))))) a)) b))
+calm_rises : {A : Type 0} {lo hi : ℕ} {p : Step A} → Rises lo hi p → ((r : Refusal) → lo ≤ place r → place r < hi → (line r).suppressed ≡ 0) → Holds Calm Whatever p
+calm_rises (rises_done h) m = holds_done tt
+calm_rises (rises_stop {r = r} h h') m = holds_stop (m (Ends r) h h')
+calm_rises (rises_ask {q = q} h h' s) m =
+    holds_ask (m (Asks q) h h') (λ n. calm_rises (s n) (λ r a b. m r (le_trans h (le_trans (le_of_lt (le_refl (suc (place (Asks q))))) a)) b))
 
-calm : {A : Type 0} {lo hi : ℕ} {p : Step A} → Rises lo hi p → T (all (calm-between lo hi) refusals) → Holds Calm Whatever p
-calm {A} {lo} {hi} r c = calm-rises r (calm-place lo hi c)
+calm : {A : Type 0} {lo hi : ℕ} {p : Step A} → Rises lo hi p → T (all (calm_between lo hi) refusals) → Holds Calm Whatever p
+calm {A} {lo} {hi} r c = calm_rises r (calm_place lo hi c)
 
-calm-at : {G A : Type 0} (g : G) {p : Step A} → Holds Calm Whatever p → Holds Calm Whatever (at g p)
+calm_at : {G A : Type 0} (g : G) {p : Step A} → Holds Calm Whatever p → Holds Calm Whatever (at g p)
 unfolding at
-calm-at g (holds-done h) = holds-done h
-calm-at g (holds-stop h) = holds-stop h
-calm-at g (holds-ask h m) = holds-ask h (λ n. calm-at g (m n))
+calm_at g (holds_done h) = holds_done h
+calm_at g (holds_stop h) = holds_stop h
+calm_at g (holds_ask h m) = holds_ask h (λ n. calm_at g (m n))
 
-frequency-calm : (e : Prescription) (c : Context) (t : Table (Row T643)) → Holds Calm Whatever (frequency-before e c t)
-unfolding frequency-before
-frequency-calm e c t =
-    calm {lo = 906} {hi = 1000} (rises-when _ (rises-done (lit≤ tt)) (rises-when _ (rises-done (lit≤ tt)) (stands-rises (signal e t)))) tt
+frequency_calm : (e : Prescription) (c : Context) (t : Table (Row T643)) → Holds Calm Whatever (frequency_before e c t)
+unfolding frequency_before
+frequency_calm e c t =
+    calm {lo = 906} {hi = 1000} (rises_when _ (rises_done (lit≤ tt)) (rises_when _ (rises_done (lit≤ tt)) (stands_rises (signal e t)))) tt
 
-rows-calm : (e : Prescription) (c : Context) (t : Table (Row T643)) → Holds Calm Whatever (rows-with frequency-before e c t)
-unfolding rows-with
-rows-calm e c t =
-    holds_then (calm (few-rises t) tt) (λ _ _.
-    holds-bind (calm (by-age-rises c.age t) tt) (λ a _.
-    holds-bind (frequency-calm e c a) (λ f _.
-    holds-bind (calm (by-weight-rises f) tt) (λ w _.
-    holds-bind (calm (by-surface-rises w) tt) (λ s _. calm (one-row-rises s) tt)))))
+rows_calm : (e : Prescription) (c : Context) (t : Table (Row T643)) → Holds Calm Whatever (rows_with frequency_before e c t)
+unfolding rows_with
+rows_calm e c t =
+    holds_then (calm (few_rises t) tt) (λ _ _.
+    holds_bind (calm (by_age_rises c.age t) tt) (λ a _.
+    holds_bind (frequency_calm e c a) (λ f _.
+    holds_bind (calm (by_weight_rises f) tt) (λ w _.
+    holds_bind (calm (by_surface_rises w) tt) (λ s _. calm (one_row_rises s) tt)))))
 
-steps-calm : (t : Tables) (e : Prescription) → Holds Calm Whatever (over-sound-with frequency-before t e)
-unfolding over-sound-with
-steps-calm t e =
-    holds-bind (calm-at nothing (calm (ratio-rises _ e) tt)) (λ q _.
-    holds-bind {Q = Whatever {A = Selected}}
-    (holds-bind (calm-at nothing (calm (product-rises _ _) tt)) (λ p _.
-    holds-bind (calm-at nothing (calm (person-rises p) tt)) (λ age _.
-    holds-bind (calm-at nothing (calm (level-rises _ _) tt)) (λ l _.
-    holds-bind (calm-at (to-basis l) (calm (setting-rises _ _ _) tt)) (λ s _.
-    holds-bind (calm-at _ (rows-calm e _ _)) (λ x _.
-    holds-bind (calm-at _ (calm (limits-of-rises _ _) tt)) (λ m _. holds-done tt)))))))
-    (λ s _. holds-done tt))
+steps_calm : (t : Tables) (e : Prescription) → Holds Calm Whatever (over_sound_with frequency_before t e)
+unfolding over_sound_with
+steps_calm t e =
+    holds_bind (calm_at nothing (calm (ratio_rises _ e) tt)) (λ q _.
+    holds_bind {Q = Whatever {A = Selected}}
+    (holds_bind (calm_at nothing (calm (product_rises _ _) tt)) (λ p _.
+    holds_bind (calm_at nothing (calm (person_rises p) tt)) (λ age _.
+    holds_bind (calm_at nothing (calm (level_rises _ _) tt)) (λ l _.
+    holds_bind (calm_at (to_basis l) (calm (setting_rises _ _ _) tt)) (λ s _.
+    holds_bind (calm_at _ (rows_calm e _ _)) (λ x _.
+    holds_bind (calm_at _ (calm (limits_of_rises _ _) tt)) (λ m _. holds_done tt)))))))
+    (λ s _. holds_done tt))
 
-before-step-2-calm : (t : Tables) (e : Entry) → Holds Calm Whatever (before-step-2 t e)
-unfolding before-step-2
-before-step-2-calm t e =
-    holds_then (calm-at nothing (calm (sound-rises t) tt)) (λ _ _. calm-at nothing (calm (filling-rises _ e) tt))
+before_step_2_calm : (t : Tables) (e : Entry) → Holds Calm Whatever (before_step_2 t e)
+unfolding before_step_2
+before_step_2_calm t e =
+    holds_then (calm_at nothing (calm (sound_rises t) tt)) (λ _ _. calm_at nothing (calm (filling_rises _ e) tt))
 
-pub nothing-suppressed : (t : Tables) (e : Entry) → Off e.rest.quiet → (check t e).suppressed ≡ 0
-unfolding check-before outcome-before up-to-step-2 from-step-2-before
-nothing-suppressed t e o =
+pub nothing_suppressed : (t : Tables) (e : Entry) → Off e.rest.quiet → (check t e).suppressed ≡ 0
+unfolding check_before outcome_before up_to_step_2 from_step_2_before
+nothing_suppressed t e o =
     ap (λ (a : Answer). a.suppressed) (as_before e o t)
-    ∙ none-suppressed e.rest.edition (answer (outcome-before t e)) (go (in-range-before e) (up-to-step-2 t e) (run_holds Calm Whatever no-data (before-step-2-calm t e)))
+    ∙ none_suppressed e.rest.edition (answer (outcome_before t e)) (go (in_range_before e) (up_to_step_2 t e) (run_holds Calm Whatever no_data (before_step_2_calm t e)))
   where
-    of-run : (u : Outcome Reached Verdict) → Comes Calm Whatever u → (answer u).suppressed ≡ 0
-    of-run (Chosen v) k = refl
-    of-run (Refused r g) k = k
+    of_run : (u : Outcome Reached Verdict) → Comes Calm Whatever u → (answer u).suppressed ≡ 0
+    of_run (Chosen v) k = refl
+    of_run (Refused r g) k = k
 
-    go : (b : Bool) (u : Outcome Reached Entry) → Comes Calm Whatever u → (answer (cond b (after u (from-step-2-before t)) (Refused (Ends Ending.EntryOutOfRange) nothing))).suppressed ≡ 0
-    go true (Chosen f) h = of-run (from-step-2-before t f) (run_holds Calm Whatever (datum f.known) (steps-calm t f.rest))
+    go : (b : Bool) (u : Outcome Reached Entry) → Comes Calm Whatever u → (answer (cond b (after u (from_step_2_before t)) (Refused (Ends Ending.EntryOutOfRange) nothing))).suppressed ≡ 0
+    go true (Chosen f) h = of_run (from_step_2_before t f) (run_holds Calm Whatever (datum f.known) (steps_calm t f.rest))
     go true (Refused r g) h = h
     go false u h = refl

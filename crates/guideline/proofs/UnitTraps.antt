@@ -6,11 +6,11 @@ use mathlib.Core.Bool.{Bool, true, false, ◌&&◌}
 use mathlib.Core.List.{List, [], ◌∷◌}
 use lib.Dec.{T, ltb}
 use Rattle.guideline.specs.Types.{Prescription, Row730, T640, T641, T642, T643, T649, Ratio, Selected, Compared}
-use Rattle.guideline.specs.Ask.{Outcome, Chosen, Refused, run, no-data}
+use Rattle.guideline.specs.Ask.{Outcome, Chosen, Refused, run, no_data}
 use Rattle.guideline.specs.Order.{line}
 use Rattle.guideline.specs.ProofTable.{put, K1, same}
-use Rattle.guideline.specs.Entries.{read-entry}
-use Rattle.guideline.specs.Rows.{read-row}
+use Rattle.guideline.specs.Entries.{read_entry}
+use Rattle.guideline.specs.Rows.{read_row}
 use Rattle.guideline.specs.Table.{table}
 use Rattle.guideline.specs.Steps.{ratio, comparison}
 use Rattle.guideline.proofs.Opened.{opened}
@@ -101,7 +101,7 @@ made_up =
 -- a dose of an article, in an entered unit, where the limits are in a base unit; steps 2 and 12 do not look at the other fields
 abbrev dosed : ℕ → ℕ → ℕ → ℕ → ℕ → Prescription
 dosed dose kind code entered base =
-    (read-entry (put 13 dose (put 14 dose (put 15 entered (put 16 base (put 17 kind (put 18 code K1))))))).rest
+    (read_entry (put 13 dose (put 14 dose (put 15 entered (put 16 base (put 17 kind (put 18 code K1))))))).rest
 
 -- the two amounts of a ratio, or the number of the refusal
 abbrev numbers_of : Outcome (Unit {0}) Ratio → List ℕ
@@ -119,7 +119,7 @@ converts rows kind code entered base l = record { rows = rows; entry = dosed 1_0
 
 abbrev pub convert : List Units → Bool
 convert [] = true
-convert (u ∷ l) = same (numbers_of (run no-data (ratio (table u.rows) u.entry))) u.numbers && convert l
+convert (u ∷ l) = same (numbers_of (run no_data (ratio (table u.rows) u.entry))) u.numbers && convert l
 
 unfoldable pub units : List Units
 units =
@@ -160,9 +160,9 @@ units =
     ∷ converts made_up HPK 4 MG ML (7_778_742_049 ∷ 4_807_526_976 ∷ [])
     ∷ []
 
-pub units-convert : T (convert units)
+pub units_convert : T (convert units)
 unfolding opened printed made_up units
-units-convert = tt
+units_convert = tt
 
 -- step 12: a dose by a ratio, against one limit that is norm minimum, norm maximum and absolute maximum at once; high and low
 pub record Dose : Type 0 where
@@ -174,8 +174,8 @@ pub record Dose : Type 0 where
 abbrev against : Ratio → ℕ → ℕ → List ℕ → Dose
 against q dose limit l = record { ratio = q; dose = dose; limit = limit; numbers = l }
 
-abbrev high-and-low : Compared → List ℕ
-high-and-low c = c.high ∷ c.low ∷ []
+abbrev high_and_low : Compared → List ℕ
+high_and_low c = c.high ∷ c.low ∷ []
 
 -- step 12 looks at nothing else of what was selected
 abbrev selected : Ratio → ℕ → Selected
@@ -184,19 +184,19 @@ selected q limit =
       context =
           record {
             ratio = q;
-            product = read-row T640 (λ _. 0);
+            product = read_row T640 (λ _. 0);
             age = 0;
-            level = read-row T641 (λ _. 0);
-            setting = read-row T642 (λ _. 0);
+            level = read_row T641 (λ _. 0);
+            setting = read_row T642 (λ _. 0);
           };
-      row = read-row T643 (λ _. 0);
-      limits = read-row T649 (λ _. limit);
+      row = read_row T643 (λ _. 0);
+      limits = read_row T649 (λ _. limit);
     }
 
 abbrev pub compare : List Dose → Bool
 compare [] = true
 compare (d ∷ l) =
-    same (high-and-low (comparison (dosed d.dose HPK 216267 DR ML) (selected d.ratio d.limit))) d.numbers
+    same (high_and_low (comparison (dosed d.dose HPK 216267 DR ML) (selected d.ratio d.limit))) d.numbers
     && compare l
 
 abbrev drop : Ratio
@@ -224,10 +224,10 @@ doses =
     ∷ against third 3_000 1_000 (0 ∷ 0 ∷ [])
     ∷ []
 
-pub doses-compare : T (compare doses)
+pub doses_compare : T (compare doses)
 unfolding opened doses
-doses-compare = tt
+doses_compare = tt
 
 -- divided first, a third of a millilitre would be 333 thousandths and not above 333
-pub divided-first-errs : ltb 333 (1_000 * third.base / third.entered) ≡ false
-divided-first-errs = refl
+pub divided_first_errs : ltb 333 (1_000 * third.base / third.entered) ≡ false
+divided_first_errs = refl

@@ -2,13 +2,13 @@
 -- the refusal of step 2 or of a test before it. No datum is asked for.
 use Rattle.std.specs.Prelude.{cond}
 use Rattle.guideline.specs.Types.{Entry, T730, Ending, Ends, Reached, Ratio}
-use Rattle.guideline.specs.Ask.{at, Outcome, Refused, run, after, no-data}
+use Rattle.guideline.specs.Ask.{at, Outcome, Refused, run, after, no_data}
 use Rattle.guideline.specs.Rows.{Tables}
-use Rattle.guideline.specs.Entries.{in-range}
+use Rattle.guideline.specs.Entries.{in_range}
 use Rattle.guideline.specs.Steps.{ratio, nothing}
-use Rattle.guideline.specs.Check.{up-to-step-2}
+use Rattle.guideline.specs.Check.{up_to_step_2}
 
 unfoldable pub conversion : Tables → Entry → Outcome Reached Ratio
 conversion t e =
-    cond (in-range e) (after (up-to-step-2 t e) (λ f. run no-data (at nothing (ratio (t.rows T730) f.rest))))
+    cond (in_range e) (after (up_to_step_2 t e) (λ f. run no_data (at nothing (ratio (t.rows T730) f.rest))))
     (Refused (Ends Ending.EntryOutOfRange) nothing)

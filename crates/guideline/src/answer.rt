@@ -1,7 +1,7 @@
 // The answer: its numbers, what is reached on the way to it, and what a comparison says.
 ghost use Rattle.std.specs.Prelude.{◌≡◌};
 ghost use Rattle.guideline.specs.Check.{numbers_of};
-ghost use Rattle.guideline.specs.Steps.{nothing, to-basis, to-category, to-rule};
+ghost use Rattle.guideline.specs.Steps.{nothing, to_basis, to_category, to_rule};
 
 use crate::context::Context;
 use crate::rows::{Row641, Row643};
@@ -61,7 +61,7 @@ impl Reached {
     }
 
     pub fn to_basis(level: Row641) -> Reached
-        ensures { result ≡ to-basis level }
+        ensures { result ≡ to_basis level }
     {
         Reached {
             basis: level.gpdbas,
@@ -71,7 +71,7 @@ impl Reached {
     }
 
     pub fn to_category(c: Context) -> Reached
-        ensures { result ≡ to-category c }
+        ensures { result ≡ to_category c }
     {
         Reached {
             basis: c.level.gpdbas,
@@ -81,7 +81,7 @@ impl Reached {
     }
 
     pub fn to_rule(c: Context, row: Row643) -> Reached
-        ensures { result ≡ to-rule c row }
+        ensures { result ≡ to_rule c row }
     {
         Reached {
             basis: c.level.gpdbas,

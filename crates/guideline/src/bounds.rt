@@ -1,6 +1,6 @@
 // The bounds of a row of table 643.
 ghost use Rattle.std.specs.Prelude.{◌≡◌};
-ghost use Rattle.guideline.specs.Values.{bounds-in-range, fits, matters};
+ghost use Rattle.guideline.specs.Values.{bounds_in_range, fits, matters};
 
 use crate::{both, either};
 
@@ -16,7 +16,7 @@ impl Bounds {
     pub const NO_BOUND: u32 = 999_999;
 
     pub fn in_range(self) -> bool
-        ensures { result ≡ bounds-in-range self }
+        ensures { result ≡ bounds_in_range self }
     {
         both(self.low <= self.high, self.high <= Bounds::NO_BOUND)
     }

@@ -1,7 +1,7 @@
 // One prescription to be checked.
 ghost use Rattle.std.specs.Prelude.{◌≡◌};
-ghost use Rattle.guideline.specs.Entries.{with-count, with-months};
-ghost use Rattle.guideline.specs.Values.{switched, given-or};
+ghost use Rattle.guideline.specs.Entries.{with_count, with_months};
+ghost use Rattle.guideline.specs.Values.{switched, given_or};
 
 // The six data that an entry may leave blank.
 #[derive(Drop)]
@@ -44,7 +44,7 @@ impl Switch {
     }
 
     pub fn given_or(self, position: u32) -> Switch
-        ensures { result ≡ given-or position self }
+        ensures { result ≡ given_or position self }
     {
         match self {
             Switch::NotGiven => Switch::Position(position),
@@ -62,7 +62,7 @@ pub struct Entry {
 
 impl Entry {
     pub fn with_count(self, count: u32) -> Entry
-        ensures { result ≡ with-count count self }
+        ensures { result ≡ with_count count self }
     {
         let known = self.known;
         let mut rest = self.rest;
@@ -71,7 +71,7 @@ impl Entry {
     }
 
     pub fn with_months(self, months: Switch) -> Entry
-        ensures { result ≡ with-months months self }
+        ensures { result ≡ with_months months self }
     {
         let p = self.rest;
         let quiet = p.quiet;

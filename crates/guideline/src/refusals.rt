@@ -1,6 +1,6 @@
 // How a check ends before step 12.
 ghost use Rattle.std.specs.Prelude.{◌≡◌};
-ghost use Rattle.guideline.specs.Ask.{no-refusal};
+ghost use Rattle.guideline.specs.Ask.{no_refusal};
 
 use crate::rows::TableName;
 
@@ -71,7 +71,7 @@ pub enum Refusal {
 impl Refusal {
     // Where a step has chosen there is no refusal, and nobody asks for one. The only filler for such an arm.
     pub fn none() -> Refusal
-        ensures { result ≡ no-refusal }
+        ensures { result ≡ no_refusal }
     {
         Refusal::Ends(Ending::EntryOutOfRange)
     }

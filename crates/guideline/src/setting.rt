@@ -1,6 +1,6 @@
 // The setting: what the rows of table 642 are told apart by, and what step 6 falls back to.
 ghost use Rattle.std.specs.Prelude.{◌≡◌};
-ghost use Rattle.guideline.specs.Values.{all-care, whole-reason, Q-general, no-route, setting-entered};
+ghost use Rattle.guideline.specs.Values.{all_care, whole_reason, Q_general, no_route, setting_entered};
 
 use crate::entries::Prescription;
 
@@ -30,7 +30,7 @@ impl Setting {
     pub const NO_ROUTE: u32 = 0;
 
     pub fn entered(p: Prescription) -> Setting
-        ensures { result ≡ setting-entered p }
+        ensures { result ≡ setting_entered p }
     {
         Setting {
             care: p.care,
@@ -41,7 +41,7 @@ impl Setting {
     }
 
     pub fn all_care(self) -> Setting
-        ensures { result ≡ record { care = all-care; reason = self.reason; icpcto = self.icpcto; route = self.route } }
+        ensures { result ≡ record { care = all_care; reason = self.reason; icpcto = self.icpcto; route = self.route } }
     {
         Setting {
             care: Setting::ALL_CARE,
@@ -52,7 +52,7 @@ impl Setting {
     }
 
     pub fn whole_reason(self) -> Setting
-        ensures { result ≡ record { care = self.care; reason = self.reason; icpcto = whole-reason; route = self.route } }
+        ensures { result ≡ record { care = self.care; reason = self.reason; icpcto = whole_reason; route = self.route } }
     {
         Setting {
             care: self.care,
@@ -63,7 +63,7 @@ impl Setting {
     }
 
     pub fn q_general(self) -> Setting
-        ensures { result ≡ record { care = self.care; reason = Q-general; icpcto = whole-reason; route = self.route } }
+        ensures { result ≡ record { care = self.care; reason = Q_general; icpcto = whole_reason; route = self.route } }
     {
         Setting {
             care: self.care,
@@ -74,7 +74,7 @@ impl Setting {
     }
 
     pub fn no_route(self) -> Setting
-        ensures { result ≡ record { care = self.care; reason = self.reason; icpcto = self.icpcto; route = no-route } }
+        ensures { result ≡ record { care = self.care; reason = self.reason; icpcto = self.icpcto; route = no_route } }
     {
         Setting {
             care: self.care,

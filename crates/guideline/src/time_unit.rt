@@ -1,6 +1,6 @@
 // The time unit of a frequency.
 ghost use Rattle.std.specs.Prelude.{◌≡◌};
-ghost use Rattle.guideline.specs.Values.{per-day, pair, twins};
+ghost use Rattle.guideline.specs.Values.{per_day, pair, twins};
 
 use crate::{both, either};
 
@@ -30,7 +30,7 @@ impl TimeUnit {
     pub const PER_6_MONTHS: u32 = 51;
 
     pub fn per_day() -> TimeUnit
-        ensures { result ≡ record { code = per-day } }
+        ensures { result ≡ record { code = per_day } }
     {
         TimeUnit {
             code: TimeUnit::PER_DAY,

@@ -10,8 +10,8 @@ use lib.Dec.{ltb}
 use Rattle.guideline.specs.declared.view.View.{View}
 use Rattle.keys.specs.Keys.{key_of, Next, Stretch}
 
-not-less : (r s : ℕ) → (r < s → ⊥) → s ≤ r
-not-less r s h = go (ltb r s) (ltb-true r s) (ltb-false r s)
+not_less : (r s : ℕ) → (r < s → ⊥) → s ≤ r
+not_less r s h = go (ltb r s) (ltb-true r s) (ltb-false r s)
   where
     go : (b : Bool) → (b ≡ true → r < s) → (b ≡ false → s ≤ r) → s ≤ r
     go true x y = absurd (h (x refl))
@@ -25,48 +25,48 @@ not_more r s h = go (ltb s r) (ltb-true s r) (ltb-false s r)
     go false x y = absurd (h (y refl))
 
 module _ (f : ℕ → ℕ) (n key from : ℕ) where
-  next-not-before : (r s : ℕ) → Next f n key from r → Next f n key from s → r < s → ⊥
-  next-not-before r s p q less = q.2 r p.0 less (p.3 (omega (arith, q.1)))
+  next_not_before : (r s : ℕ) → Next f n key from r → Next f n key from s → r < s → ⊥
+  next_not_before r s p q less = q.2 r p.0 less (p.3 (omega (arith, q.1)))
 
   pub next_one : (r s : ℕ) → Next f n key from r → Next f n key from s → r ≡ s
   next_one r s p q =
-      let a : s ≤ r = not-less r s (next-not-before r s p q) in
-      let b : r ≤ s = not-less s r (next-not-before s r q p) in
+      let a : s ≤ r = not_less r s (next_not_before r s p q) in
+      let b : r ≤ s = not_less s r (next_not_before s r q p) in
       omega arith
 
 module _ {l : List ℕ} {v p : View} {k key : ℕ} (c : Stretch l v k key p) where
   -- no row has the key
-  pub stretch-none : ((i : ℕ) → i < v.rows → key_of l v k i ≡ key → ⊥) → p.rows ≡ 0
-  stretch-none none =
-      let h : c.to ≤ c.from = not-less c.from c.to (λ some. none c.from (omega (arith, c.most)) (c.first some)) in
+  pub stretch_none : ((i : ℕ) → i < v.rows → key_of l v k i ≡ key → ⊥) → p.rows ≡ 0
+  stretch_none none =
+      let h : c.to ≤ c.from = not_less c.from c.to (λ some. none c.from (omega (arith, c.most)) (c.first some)) in
       let e : p.rows ≡ c.to - c.from = ap (λ (x : View). x.rows) c.cut in
       omega arith
 
   -- a row with the key is a row of the stretch
   module _ (i : ℕ) (row : i < v.rows) (same : key_of l v k i ≡ key) where
-    stretch-from : c.from ≤ i
-    stretch-from = not-less i c.from (λ less. c.before i (omega arith) less same)
+    stretch_from : c.from ≤ i
+    stretch_from = not_less i c.from (λ less. c.before i (omega arith) less same)
 
-    stretch-to : i < c.to
-    stretch-to = not_more c.to i (λ more. c.after i more row same)
+    stretch_to : i < c.to
+    stretch_to = not_more c.to i (λ more. c.after i more row same)
 
 module _ {l : List ℕ} {v p q : View} {k key : ℕ} (c : Stretch l v k key p) (d : Stretch l v k key q) (i : ℕ) (row : i < v.rows) (same : key_of l v k i ≡ key) where
-  from-most : d.from ≤ c.from
-  from-most =
-      let x : c.from ≤ i = stretch-from c i row same in
-      let y : i < c.to = stretch-to c i row same in
-      stretch-from d c.from (omega arith) (c.first (omega arith))
+  from_most : d.from ≤ c.from
+  from_most =
+      let x : c.from ≤ i = stretch_from c i row same in
+      let y : i < c.to = stretch_to c i row same in
+      stretch_from d c.from (omega arith) (c.first (omega arith))
 
-  to-most : c.to ≤ d.to
-  to-most =
-      let x : c.from ≤ i = stretch-from c i row same in
-      let y : i < c.to = stretch-to c i row same in
-      let z : c.to - 1 < d.to = stretch-to d (c.to - 1) (omega (arith, c.most)) (c.last (omega arith)) in
+  to_most : c.to ≤ d.to
+  to_most =
+      let x : c.from ≤ i = stretch_from c i row same in
+      let y : i < c.to = stretch_to c i row same in
+      let z : c.to - 1 < d.to = stretch_to d (c.to - 1) (omega (arith, c.most)) (c.last (omega arith)) in
       omega arith
 
-pub stretch-one :
+pub stretch_one :
     {l : List ℕ} {v p q : View} {k key : ℕ} → Stretch l v k key p → Stretch l v k key q → (i : ℕ) → i < v.rows → key_of l v k i ≡ key → p ≡ q
-stretch-one {l} {v} {p} {q} c d i row same =
-    let a : c.from ≡ d.from = omega (arith, from-most c d i row same, from-most d c i row same) in
-    let b : c.to ≡ d.to = omega (arith, to-most c d i row same, to-most d c i row same) in
+stretch_one {l} {v} {p} {q} c d i row same =
+    let a : c.from ≡ d.from = omega (arith, from_most c d i row same, from_most d c i row same) in
+    let b : c.to ≡ d.to = omega (arith, to_most c d i row same, to_most d c i row same) in
     c.cut ∙ rw (a, b) (sym d.cut)

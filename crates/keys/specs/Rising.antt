@@ -5,13 +5,13 @@ abbrev pub Rising : (ℕ → ℕ) → ℕ → Type 0
 Rising f n = (i j : ℕ) → i ≤ j → j < n → f i ≤ f j
 
 -- the key before row n, and 0 before the first; does each key come up to the next?
-abbrev pub key-before : (ℕ → ℕ) → ℕ → ℕ
-key-before f zero = 0
-key-before f (suc n) = f n
+abbrev pub key_before : (ℕ → ℕ) → ℕ → ℕ
+key_before f zero = 0
+key_before f (suc n) = f n
 
 unfoldable pub rises : (ℕ → ℕ) → ℕ → Bool
 rises f zero = true
-rises f (suc n) = rises f n && leb (key-before f n) (f n)
+rises f (suc n) = rises f n && leb (key_before f n) (f n)
 
 -- the rows below r are below `low`, and the others are not
 abbrev pub From : (ℕ → ℕ) → ℕ → ℕ → ℕ → Type 0

@@ -3,14 +3,14 @@ use Rattle.std.specs.Prelude.{ℕ, ◌≡◌, List}
 use Rattle.guideline.specs.declared.rows.TableName.{TableName}
 use Rattle.guideline.specs.declared.rows.TableName.TheVariants.{T640, T641, T642, T643, T649, T730, T070}
 use Rattle.guideline.specs.Bytes.{Lents, by_rows}
-use Rattle.cells.specs.Lents.{key-at}
+use Rattle.cells.specs.Lents.{key_at}
 use Rattle.keys.specs.declared.seen.Seen.{Seen}
 use Rattle.keys.specs.declared.seen.AllSeen.{AllSeen}
 use Rattle.keys.specs.Keys.{key_of}
 use Rattle.keys.specs.Rising.{rises}
 
 abbrev pub seen_of : (n : TableName) → List ℕ → Seen
-seen_of n l = record { rising = rises (key_of l (by_rows n l) (key-at n)) (by_rows n l).rows }
+seen_of n l = record { rising = rises (key_of l (by_rows n l) (key_at n)) (by_rows n l).rows }
 
 pub record Sees (n : TableName) (l : List ℕ) (s : Seen) : Type 0 where
   pub same : s ≡ seen_of n l

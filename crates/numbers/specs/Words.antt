@@ -14,5 +14,5 @@ unfoldable pub word_bytes : ℕ → List ℕ
 word_bytes n = n % 256 ∷ n / 256 % 256 ∷ n / 65_536 % 256 ∷ n / 16_777_216 % 256 ∷ []
 
 -- a number of 64 bits as eight
-unfoldable pub long-bytes : ℕ → List ℕ
-long-bytes n = word_bytes (n % 4_294_967_296) ++ word_bytes (n / 4_294_967_296)
+unfoldable pub long_bytes : ℕ → List ℕ
+long_bytes n = word_bytes (n % 4_294_967_296) ++ word_bytes (n / 4_294_967_296)

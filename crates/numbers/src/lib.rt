@@ -1,7 +1,7 @@
 // Numbers in bytes, lowest byte first: read and written, 32 and 64 bits.
 ghost use Rattle.std.specs.Prelude.{◌≡◌, ◌+◌, ◌≤◌, ◌<◌, length};
 ghost use Rattle.std.proofs.lemmas.List.Edits.{sets};
-ghost use Rattle.numbers.specs.Words.{word, long, word_bytes, long-bytes};
+ghost use Rattle.numbers.specs.Words.{word, long, word_bytes, long_bytes};
 
 fn wide(x: u8) -> u32
     ensures { (result ≡ x) × (result < 256) }
@@ -45,7 +45,7 @@ pub fn put_word(buf: &mut [u8], at: usize, n: u32)
 // The number's eight bytes at a place. No other byte changes.
 pub fn put_long(buf: &mut [u8], at: usize, n: u64)
     requires { at + 8 ≤ length buf.old }
-    ensures { buf.new ≡ sets buf.old at (long-bytes n) }
+    ensures { buf.new ≡ sets buf.old at (long_bytes n) }
 {
     put_word(buf, at, (n % 4294967296) as u32);
     put_word(buf, at + 4, (n / 4294967296) as u32);

@@ -5,9 +5,9 @@ use Rattle.guideline.specs.declared.entries.Prescription.{Prescription}
 use Rattle.guideline.specs.declared.refusals.Refusal.{Refusal}
 use Rattle.guideline.specs.declared.rows.Row643.{Row643}
 use Rattle.guideline.specs.declared.rows.Row649.{Row649}
-use Rattle.guideline.specs.Ask.{Done, Step, ◌>>=◌, Outcome, Chosen, Refused, no-refusal}
+use Rattle.guideline.specs.Ask.{Done, Step, ◌>>=◌, Outcome, Chosen, Refused, no_refusal}
 use Rattle.guideline.specs.Table.{Table}
-use Rattle.guideline.specs.Quiet.{fitting-weight, fitting-surface, lower}
+use Rattle.guideline.specs.Quiet.{fitting_weight, fitting_surface, lower}
 use Rattle.quiet.specs.declared.Quieted.{Quieted}
 use Rattle.quiet.specs.declared.Quieted.TheVariants.{Says, Asks}
 
@@ -18,12 +18,12 @@ outcome (Asks q) = Refused (Refusal.Asks q) tt
 
 -- what is said is no refusal
 abbrev pub refusal : Quieted → Refusal
-refusal (Says b) = no-refusal
+refusal (Says b) = no_refusal
 refusal (Asks q) = Refusal.Asks q
 
 module _ (limits : Table Row649) (p : Prescription) (q : Ratio) where
-  unfoldable pub from-surface : Table Row643 → Step Bool
-  from-surface t = fitting-surface t >>= λ s. Done (lower limits p q s)
+  unfoldable pub from_surface : Table Row643 → Step Bool
+  from_surface t = fitting_surface t >>= λ s. Done (lower limits p q s)
 
-  unfoldable pub from-weight : Table Row643 → Step Bool
-  from-weight t = fitting-weight t >>= λ w. from-surface w
+  unfoldable pub from_weight : Table Row643 → Step Bool
+  from_weight t = fitting_weight t >>= λ w. from_surface w

@@ -5,7 +5,7 @@ ghost use Rattle.guideline.specs.declared.rows.TableName.TheVariants.{T643};
 ghost use Rattle.guideline.specs.Rows.{width};
 ghost use Rattle.cells.specs.Views.{Fits};
 ghost use Rattle.sieve.specs.Settled.{own_value};
-ghost use Rattle.quiet.specs.Fitted.{question-of, Leaves};
+ghost use Rattle.quiet.specs.Fitted.{question_of, Leaves};
 
 use filter::{Filter, Measure};
 use guideline::entries::Value;
@@ -21,7 +21,7 @@ pub enum Fitted {
 
 // P4's 105 and 106.
 fn question_of(m: Measure) -> Question
-    ensures { result ≡ question-of m }
+    ensures { result ≡ question_of m }
 {
     match m {
         Measure::Weight => Question::WeightPerDay,

@@ -5,14 +5,14 @@ ghost use Rattle.guideline.specs.declared.rows.TableName.TheVariants.{T643, T649
 ghost use Rattle.guideline.specs.Ask.{run};
 ghost use Rattle.guideline.specs.Entries.{datum};
 ghost use Rattle.guideline.specs.Rows.{width};
-ghost use Rattle.guideline.specs.Quiet.{may-suppress, suppresses};
+ghost use Rattle.guideline.specs.Quiet.{may_suppress, suppresses};
 ghost use Rattle.cells.specs.Lents.{rows};
 ghost use Rattle.cells.specs.Views.{Fits};
 ghost use Rattle.filter.specs.declared.Filter.TheVariants.{Every};
 ghost use Rattle.keys.specs.Seen.{Sees};
 ghost use Rattle.sieve.specs.Settled.{kept};
 ghost use Rattle.units.specs.Comparing.{Amounts, Tested};
-ghost use Rattle.quiet.specs.Links.{outcome, refusal, from-weight, from-surface};
+ghost use Rattle.quiet.specs.Links.{outcome, refusal, from_weight, from_surface};
 
 use crate::fitting::{Fitted, fitting};
 use crate::lower::lower;
@@ -52,7 +52,7 @@ impl Quieted {
 
 // 3.4.2, the setting of the host and the three conditions.
 fn may_suppress(p: Prescription, c: Context) -> bool
-    ensures { result ≡ may-suppress p c }
+    ensures { result ≡ may_suppress p c }
 {
     let quiet = p.quiet;
     let on = quiet.on();
@@ -80,7 +80,7 @@ fn from_surface(
     q: Ratio,
 ) -> Quieted
     requires { Fits (width T643) v (length t643.now) × Sees T649 t649.now w × Amounts q × Tested p (rows T649 t649.now) × (s.surface ≡ Blank) }
-    ensures { run (datum d) (from-surface (rows T649 t649.now) p q (kept t643.now v s)) ≡ outcome result }
+    ensures { run (datum d) (from_surface (rows T649 t649.now) p q (kept t643.now v s)) ≡ outcome result }
 {
     let surface = d.surface;
     let step = fitting(t643, v, s, Measure::Surface, surface);
@@ -102,7 +102,7 @@ fn from_weight(
     q: Ratio,
 ) -> Quieted
     requires { Fits (width T643) v (length t643.now) × Sees T649 t649.now w × Amounts q × Tested p (rows T649 t649.now) × (s.weight ≡ Blank) × (s.surface ≡ Blank) }
-    ensures { run (datum d) (from-weight (rows T649 t649.now) p q (kept t643.now v s)) ≡ outcome result }
+    ensures { run (datum d) (from_weight (rows T649 t649.now) p q (kept t643.now v s)) ≡ outcome result }
 {
     let weight = d.weight;
     let step = fitting(t643, v, s, Measure::Weight, weight);

@@ -1,8 +1,8 @@
 // 3.4.2.2 to 3.4.2.5, of the rule of one row.
 ghost use Rattle.std.specs.Prelude.{◌≡◌, not, ◌&&◌, eqb};
 ghost use Rattle.guideline.specs.declared.rows.TableName.TheVariants.{T649};
-ghost use Rattle.guideline.specs.Quiet.{minimum-empty, maximum-given, above-dose, above-day-dose, allows-more};
-ghost use Rattle.guideline.specs.Values.{no-limit};
+ghost use Rattle.guideline.specs.Quiet.{minimum_empty, maximum_given, above_dose, above_day_dose, allows_more};
+ghost use Rattle.guideline.specs.Values.{no_limit};
 ghost use Rattle.cells.specs.Lents.{rows};
 ghost use Rattle.keys.specs.Seen.{Sees};
 ghost use Rattle.sieve.specs.Settled.{settled643};
@@ -28,7 +28,7 @@ pub enum Judged {
 // 3.4.2.3 to 3.4.2.5. The products of the day doses can pass 64 bits.
 fn allows_more(p: Prescription, q: Ratio, row: Row643, m: Row649) -> bool
     requires { Products q m.normmaximum p.highest }
-    ensures { result ≡ (maximum-given m && (above-dose p q m && above-day-dose p q row m)) }
+    ensures { result ≡ (maximum_given m && (above_dose p q m && above_day_dose p q row m)) }
 {
     let entered = p.highest as u64 * p.count as u64;
     let most = m.normmaximum as u64 * row.gpdfaa as u64;
@@ -41,7 +41,7 @@ fn allows_more(p: Prescription, q: Ratio, row: Row643, m: Row649) -> bool
 // 3.4.2.2, where the rule has one row.
 fn of_limits(p: Prescription, q: Ratio, row: Row643, m: Row649) -> Judged
     requires { Products q m.normmaximum p.highest }
-    ensures { result ≡ judged (not (eqb m.normminimum no-limit)) (maximum-given m && (above-dose p q m && above-day-dose p q row m)) }
+    ensures { result ≡ judged (not (eqb m.normminimum no_limit)) (maximum_given m && (above_dose p q m && above_day_dose p q row m)) }
 {
     if m.normminimum == Row649::NO_LIMIT {
         return Judged::Free(allows_more(p, q, row, m));
@@ -51,7 +51,7 @@ fn of_limits(p: Prescription, q: Ratio, row: Row643, m: Row649) -> Judged
 
 fn of_rule(t649: &[u8], w: Seen, p: Prescription, q: Ratio, row: Row643) -> Judged
     requires { Sees T649 t649.now w × Amounts q × Tested p (rows T649 t649.now) }
-    ensures { result ≡ judged (not (minimum-empty (rows T649 t649.now) row)) (allows-more (rows T649 t649.now) p q row) }
+    ensures { result ≡ judged (not (minimum_empty (rows T649 t649.now) row)) (allows_more (rows T649 t649.now) p q row) }
 {
     let found = t649::ask(t649, w, row.gpddnr);
     match found {
@@ -64,7 +64,7 @@ fn of_rule(t649: &[u8], w: Seen, p: Prescription, q: Ratio, row: Row643) -> Judg
 // A row that what is settled does not let pass has no say.
 pub fn judge(t649: &[u8], w: Seen, s: Settled, p: Prescription, q: Ratio, row: Row643) -> Judged
     requires { Sees T649 t649.now w × Amounts q × Tested p (rows T649 t649.now) }
-    ensures { result ≡ judged (settled643 s row && not (minimum-empty (rows T649 t649.now) row)) (settled643 s row && allows-more (rows T649 t649.now) p q row) }
+    ensures { result ≡ judged (settled643 s row && not (minimum_empty (rows T649 t649.now) row)) (settled643 s row && allows_more (rows T649 t649.now) p q row) }
 {
     if s.passes(row) {
         return of_rule(t649, w, p, q, row);

@@ -10,9 +10,9 @@ use Rattle.guideline.specs.declared.view.View.{View}
 use Rattle.guideline.specs.declared.refusals.Ending.{Ending}
 use Rattle.guideline.specs.declared.refusals.Refusal.{Refusal}
 use Rattle.guideline.specs.declared.refusals.Refusal.TheVariants.{Ends}
-use Rattle.guideline.specs.Rows.{sound-row}
+use Rattle.guideline.specs.Rows.{sound_row}
 use Rattle.guideline.specs.Bytes.{Lents, by_rows, spelled}
-use Rattle.guideline.specs.Table.{all-rows}
+use Rattle.guideline.specs.Table.{all_rows}
 use Rattle.cells.specs.Lents.{shown}
 use Rattle.keys.specs.declared.seen.AllSeen.{AllSeen}
 use Rattle.keys.specs.Seen.{seen_of, all_seen}
@@ -21,48 +21,48 @@ use Rattle.ranges.specs.declared.sound.Soundness.TheVariants.{Sound}
 use Rattle.ranges.specs.declared.sound.Tests.{Tests}
 use Rattle.ranges.specs.declared.sound.Tests.TheVariants.{Passed, Failed}
 use Rattle.ranges.specs.declared.sound.Tried.{Tried}
-use Rattle.ranges.specs.Soundly.{tested, link, in-range-after, tried, in-ranges-of, carried}
+use Rattle.ranges.specs.Soundly.{tested, link, in_range_after, tried, in_ranges_of, carried}
 
-pub link-passed : (s : Tests) (b : Bool) (r : Refusal) → link s b r ≡ Passed → (s ≡ Passed) × (b ≡ true)
-link-passed Passed true r h = (refl, refl)
-link-passed Passed false r h = absurd (let z : ◌≡◌ {A = ℕ} 0 1 = cc in let y : ⊥ = omega arith in y)
-link-passed (Failed w) b r h = absurd (let z : ◌≡◌ {A = ℕ} 0 1 = cc in let y : ⊥ = omega arith in y)
+pub link_passed : (s : Tests) (b : Bool) (r : Refusal) → link s b r ≡ Passed → (s ≡ Passed) × (b ≡ true)
+link_passed Passed true r h = (refl, refl)
+link_passed Passed false r h = absurd (let z : ◌≡◌ {A = ℕ} 0 1 = cc in let y : ⊥ = omega arith in y)
+link_passed (Failed w) b r h = absurd (let z : ◌≡◌ {A = ℕ} 0 1 = cc in let y : ⊥ = omega arith in y)
 
 -- what was found of a table is so
 found_in : (all rise : Bool) {b : Bool} → InRange b ≡ cond all (InRange rise) OutOfRange → (all ≡ true) × (b ≡ rise)
 found_in true rise h = (refl, cc)
 found_in false rise h = absurd (let z : ◌≡◌ {A = ℕ} 0 1 = cc in let y : ⊥ = omega arith in y)
 
-found-out : (all rise : Bool) → OutOfRange ≡ cond all (InRange rise) OutOfRange → all ≡ false
-found-out true rise h = absurd (let z : ◌≡◌ {A = ℕ} 0 1 = cc in let y : ⊥ = omega arith in y)
-found-out false rise h = refl
+found_out : (all rise : Bool) → OutOfRange ≡ cond all (InRange rise) OutOfRange → all ≡ false
+found_out true rise h = absurd (let z : ◌≡◌ {A = ℕ} 0 1 = cc in let y : ⊥ = omega arith in y)
+found_out false rise h = refl
 
 module _ (n : TableName) (l : List ℕ) where
   abbrev all : Bool
-  all = all-rows (sound-row n) (shown n l (by_rows n l))
+  all = all_rows (sound_row n) (shown n l (by_rows n l))
 
   -- a table whose turn it was, and one whose turn it was not
   module _ {before : Tests} where
-    pub tried-in : {v : View} {b : Bool} → v ≡ by_rows n l → before ≡ Passed → InRange b ≡ tested n l v → ◌≡◌ {A = Tried} (record { tests = Passed; seen = record { rising = b } }) (tried before n l)
-    unfolding tested tried in-range-after
-    tried-in {v} {b} by passed found =
+    pub tried_in : {v : View} {b : Bool} → v ≡ by_rows n l → before ≡ Passed → InRange b ≡ tested n l v → ◌≡◌ {A = Tried} (record { tests = Passed; seen = record { rising = b } }) (tried before n l)
+    unfolding tested tried in_range_after
+    tried_in {v} {b} by passed found =
         let k = found_in all (seen_of n l).rising (found ∙ ap (tested n l) by) in
         rw (passed, k.0, k.1)
 
-    pub tried-out : {v : View} → v ≡ by_rows n l → before ≡ Passed → OutOfRange ≡ tested n l v → ◌≡◌ {A = Tried} (record { tests = Failed (Ends (Ending.OutOfRange n)); seen = record { rising = false } }) (tried before n l)
-    unfolding tested tried in-range-after
-    tried-out by passed found = rw (passed, found-out all (seen_of n l).rising (found ∙ ap (tested n l) by))
+    pub tried_out : {v : View} → v ≡ by_rows n l → before ≡ Passed → OutOfRange ≡ tested n l v → ◌≡◌ {A = Tried} (record { tests = Failed (Ends (Ending.OutOfRange n)); seen = record { rising = false } }) (tried before n l)
+    unfolding tested tried in_range_after
+    tried_out by passed found = rw (passed, found_out all (seen_of n l).rising (found ∙ ap (tested n l) by))
 
-    pub tried-not : {r : Refusal} → before ≡ Failed r → ◌≡◌ {A = Tried} (record { tests = before; seen = record { rising = false } }) (tried before n l)
-    unfolding tried in-range-after
-    tried-not failed = rw failed
+    pub tried_not : {r : Refusal} → before ≡ Failed r → ◌≡◌ {A = Tried} (record { tests = before; seen = record { rising = false } }) (tried before n l)
+    unfolding tried in_range_after
+    tried_not failed = rw failed
 
 -- a test that passed comes after tests that passed, and its table was seen as it is
-tried-passed : (before : Tests) (n : TableName) (l : List ℕ) (r : Tried) → r ≡ tried before n l → r.tests ≡ Passed → (before ≡ Passed) × (r.seen ≡ seen_of n l)
-unfolding tried in-range-after
-tried-passed before n l r e h =
-    let passed : in-range-after before n l ≡ Passed = sym (ap (λ (x : Tried). x.tests) e) ∙ h in
-    ((link-passed before _ _ passed).0, rw (e, passed))
+tried_passed : (before : Tests) (n : TableName) (l : List ℕ) (r : Tried) → r ≡ tried before n l → r.tests ≡ Passed → (before ≡ Passed) × (r.seen ≡ seen_of n l)
+unfolding tried in_range_after
+tried_passed before n l r e h =
+    let passed : in_range_after before n l ≡ Passed = sym (ap (λ (x : Tried). x.tests) e) ∙ h in
+    ((link_passed before _ _ passed).0, rw (e, passed))
 
 -- what was seen matters only where the tests passed
 carried_same : (s : Tests) (v w : AllSeen) → (s ≡ Passed → v ≡ w) → carried s v ≡ carried s w
@@ -82,22 +82,22 @@ module _ (b : Lents) (before : Tests) {p q r s t u v : Tried}
     (et : t ≡ tried s.tests T649 (b T649))
     (eu : u ≡ tried t.tests T730 (b T730))
     (ev : v ≡ tried u.tests T070 (b T070)) where
-  last-tests : v.tests ≡ in-ranges-of (spelled b) before
-  unfolding tried in-range-after in-ranges-of spelled shown
-  last-tests = rw (ev, eu, et, es, er, eq, ep)
+  last_tests : v.tests ≡ in_ranges_of (spelled b) before
+  unfolding tried in_range_after in_ranges_of spelled shown
+  last_tests = rw (ev, eu, et, es, er, eq, ep)
 
-  all-are-seen : v.tests ≡ Passed → seen_all p q r s t u v ≡ all_seen b
-  all-are-seen h =
-      let k7 = tried-passed _ _ _ v ev h in
-      let k6 = tried-passed _ _ _ u eu k7.0 in
-      let k5 = tried-passed _ _ _ t et k6.0 in
-      let k4 = tried-passed _ _ _ s es k5.0 in
-      let k3 = tried-passed _ _ _ r er k4.0 in
-      let k2 = tried-passed _ _ _ q eq k3.0 in
-      let k1 = tried-passed _ _ _ p ep k2.0 in
+  all_are_seen : v.tests ≡ Passed → seen_all p q r s t u v ≡ all_seen b
+  all_are_seen h =
+      let k7 = tried_passed _ _ _ v ev h in
+      let k6 = tried_passed _ _ _ u eu k7.0 in
+      let k5 = tried_passed _ _ _ t et k6.0 in
+      let k4 = tried_passed _ _ _ s es k5.0 in
+      let k3 = tried_passed _ _ _ r er k4.0 in
+      let k2 = tried_passed _ _ _ q eq k3.0 in
+      let k1 = tried_passed _ _ _ p ep k2.0 in
       rw (k1.1, k2.1, k3.1, k4.1, k5.1, k6.1, k7.1)
 
-  pub chained : carried v.tests (seen_all p q r s t u v) ≡ carried (in-ranges-of (spelled b) before) (all_seen b)
+  pub chained : carried v.tests (seen_all p q r s t u v) ≡ carried (in_ranges_of (spelled b) before) (all_seen b)
   chained =
-      carried_same v.tests (seen_all p q r s t u v) (all_seen b) all-are-seen
-      ∙ ap (λ (x : Tests). carried x (all_seen b)) last-tests
+      carried_same v.tests (seen_all p q r s t u v) (all_seen b) all_are_seen
+      ∙ ap (λ (x : Tests). carried x (all_seen b)) last_tests

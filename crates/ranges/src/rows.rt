@@ -1,9 +1,9 @@
 // 122 of a table, by its name, in one pass that also sees whether the keys rise.
 ghost use Rattle.std.specs.Prelude.{◌≡◌, false, ◌<◌, length};
-ghost use Rattle.guideline.specs.Rows.{width, sound-row};
-ghost use Rattle.guideline.specs.Table.{all-rows};
+ghost use Rattle.guideline.specs.Rows.{width, sound_row};
+ghost use Rattle.guideline.specs.Table.{all_rows};
 ghost use Rattle.cells.specs.Views.{Fits};
-ghost use Rattle.cells.specs.Lents.{shown, row_at, key-at};
+ghost use Rattle.cells.specs.Lents.{shown, row_at, key_at};
 ghost use Rattle.keys.specs.Keys.{key_of};
 ghost use Rattle.keys.specs.Rising.{rises};
 ghost use Rattle.ranges.specs.Soundly.{InRangeUpTo, tested};
@@ -21,7 +21,7 @@ pub enum Finding {
 
 fn row_in_range(t: &[u8], v: View, n: TableName, i: usize) -> bool
     requires { Fits (width n) v (length t.now) × (i < v.rows) }
-    ensures { result ≡ sound-row n (row_at n t.now v i) }
+    ensures { result ≡ sound_row n (row_at n t.now v i) }
 {
     match n {
         TableName::T640 => t640::in_range(cells::t640::row(t, v, i)),
@@ -37,7 +37,7 @@ fn row_in_range(t: &[u8], v: View, n: TableName, i: usize) -> bool
 // 122 of the rows from one on, where those before it passed.
 fn rest_in_range(t: &[u8], v: View, n: TableName, from: usize) -> bool
     requires { Fits (width n) v (length t.now) × InRangeUpTo n t.now v from }
-    ensures { result ≡ all-rows (sound-row n) (shown n t.now v) }
+    ensures { result ≡ all_rows (sound_row n) (shown n t.now v) }
 {
     let rows = v.rows;
     let mut i = from;
@@ -52,7 +52,7 @@ fn rest_in_range(t: &[u8], v: View, n: TableName, from: usize) -> bool
 
 // Once a key falls, the keys of the other rows are not looked at.
 fn after_a_fall(t: &[u8], v: View, n: TableName, from: usize) -> Finding
-    requires { Fits (width n) v (length t.now) × InRangeUpTo n t.now v from × (rises (key_of t.now v (key-at n)) from ≡ false) }
+    requires { Fits (width n) v (length t.now) × InRangeUpTo n t.now v from × (rises (key_of t.now v (key_at n)) from ≡ false) }
     ensures { result ≡ tested n t.now v }
 {
     if rest_in_range(t, v, n, from) {

@@ -1,12 +1,12 @@
 // 122 of a row of table 70: HPKODE, PRKODE, HPANPR, GPKODE, PRANGP, HPANGP.
 ghost use Rattle.std.specs.Prelude.{◌≡◌};
 ghost use Rattle.guideline.specs.declared.rows.TableName.TheVariants.{T070};
-ghost use Rattle.guideline.specs.Rows.{sound-row};
+ghost use Rattle.guideline.specs.Rows.{sound_row};
 
 use guideline::rows::Row070;
 
 pub fn in_range(r: Row070) -> bool
-    ensures { result ≡ sound-row T070 r }
+    ensures { result ≡ sound_row T070 r }
 {
     guideline::both(
         fields::codes_from_1().holds(r.hpkode),

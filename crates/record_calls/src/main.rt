@@ -1,7 +1,7 @@
 // The calls of the readers and writers of records in bulk: calls from standard input, the line of each answer to standard output.
 ghost use Rattle.std.specs.Prelude.{◌+◌, ◌≤◌, ◌<◌, length};
-ghost use Rattle.call_lines.specs.Lines.{longest-line};
-ghost use Rattle.call_stream.specs.Calls.{longest-call};
+ghost use Rattle.call_lines.specs.Lines.{longest_line};
+ghost use Rattle.call_stream.specs.Calls.{longest_call};
 
 use call_stream::Taken;
 use libc::{STDIN_FILENO, STDOUT_FILENO};
@@ -26,7 +26,7 @@ fn put_out(lines: &[u8]) -> bool {
 
 // More of the input behind what is gathered. Room is left, so that nothing read means that the input has ended.
 fn gather(input: &mut [u8], have: usize, out: &mut [u8], at: usize) -> Gathered
-    requires { (have < length input.old) × (at + longest-line ≤ length out.old) }
+    requires { (have < length input.old) × (at + longest_line ≤ length out.old) }
     ensures { (result.from ≤ result.have) × (result.have ≤ length input.new) × (result.end ≤ length out.new) }
 {
     let got = libc::read(STDIN_FILENO, &mut input[have..]);
@@ -57,7 +57,7 @@ fn gather(input: &mut [u8], have: usize, out: &mut [u8], at: usize) -> Gathered
 }
 
 fn next_call(input: &mut [u8], from: usize, have: usize, out: &mut [u8], at: usize) -> Gathered
-    requires { (from ≤ have) × (have ≤ length input.old) × (longest-call ≤ length input.old) × (at + longest-line ≤ length out.old) }
+    requires { (from ≤ have) × (have ≤ length input.old) × (longest_call ≤ length input.old) × (at + longest_line ≤ length out.old) }
     ensures { (result.from ≤ result.have) × (result.have ≤ length input.new) × (result.end ≤ length out.new) }
 {
     let taken = call_stream::take_call(&mut input[from..have], out, at);
@@ -89,8 +89,8 @@ struct Place {
 
 // A place with room for a line: where too little is left, the lines are written and their room is free again.
 fn room(out: &[u8], at: usize) -> Place
-    requires { (at ≤ length out.now) × (longest-line ≤ length out.now) }
-    ensures { result.at + longest-line ≤ length out.now }
+    requires { (at ≤ length out.now) × (longest_line ≤ length out.now) }
+    ensures { result.at + longest_line ≤ length out.now }
 {
     if call_stream::LONGEST_LINE <= out.len() - at {
         return Place { at, goes_on: true };
@@ -103,7 +103,7 @@ fn room(out: &[u8], at: usize) -> Place
 
 // A proved loop has to end, and nothing says that an input does: it counts down from a number that no run uses up.
 fn answer_all(input: &mut [u8], out: &mut [u8]) -> usize
-    requires { (longest-call ≤ length input.old) × (longest-line ≤ length out.old) }
+    requires { (longest_call ≤ length input.old) × (longest_line ≤ length out.old) }
     ensures { result ≤ length out.new }
 {
     let mut from: usize = 0;

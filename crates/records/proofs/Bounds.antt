@@ -6,22 +6,22 @@ use mathlib.Core.Path.{◌≡◌, ap}
 use native.Mathlib.Omega.{arith}
 use Rattle.records.specs.Layout.{Reading, said, refused, read_by, scan}
 use Rattle.records.specs.File.{File, reading, writable}
-use Rattle.records.proofs.Fitting.{Within, within-fits, fits-within}
-use Rattle.records.proofs.LayoutLaws.{scan-refuses}
+use Rattle.records.proofs.Fitting.{Within, within_fits, fits_within}
+use Rattle.records.proofs.LayoutLaws.{scan_refuses}
 
-refused-by : {A B : Type 0} (g : A → B) (x : Reading A) (n : ℕ) → read_by g x ≡ refused n → x ≡ refused n
-refused-by g (said v) n e = absurd (let z : ◌≡◌ {A = ℕ} 0 1 = cc in let y : ⊥ = omega arith in y)
-refused-by g (refused m) n e = let q : m ≡ n = cc in ap refused q
+refused_by : {A B : Type 0} (g : A → B) (x : Reading A) (n : ℕ) → read_by g x ≡ refused n → x ≡ refused n
+refused_by g (said v) n e = absurd (let z : ◌≡◌ {A = ℕ} 0 1 = cc in let y : ⊥ = omega arith in y)
+refused_by g (refused m) n e = let q : m ≡ n = cc in ap refused q
 
 module _ {Record : Type 0} (f : File Record) where
-  pub writable-within : (r : Record) → writable f r ≡ true → Within f.layout (f.values_of r)
+  pub writable_within : (r : Record) → writable f r ≡ true → Within f.layout (f.values_of r)
   unfolding writable
-  writable-within r w = fits-within f.layout (f.values_of r) w
+  writable_within r w = fits_within f.layout (f.values_of r) w
 
-  pub within-writable : (r : Record) → Within f.layout (f.values_of r) → writable f r ≡ true
+  pub within_writable : (r : Record) → Within f.layout (f.values_of r) → writable f r ≡ true
   unfolding writable
-  within-writable r w = within-fits f.layout (f.values_of r) w
+  within_writable r w = within_fits f.layout (f.values_of r) w
 
-  pub refusal-bounds : (s : List ℕ) (n : ℕ) → reading f s ≡ refused n → (201 ≤ n) × (n ≤ 204)
+  pub refusal_bounds : (s : List ℕ) (n : ℕ) → reading f s ≡ refused n → (201 ≤ n) × (n ≤ 204)
   unfolding reading
-  refusal-bounds s n e = scan-refuses f.layout s n (refused-by f.record_of (scan f.layout s) n e)
+  refusal_bounds s n e = scan_refuses f.layout s n (refused_by f.record_of (scan f.layout s) n e)

@@ -7,31 +7,31 @@ use native.Mathlib.Omega.{arith}
 use lib.ListN.{length}
 use lib.Dec.{leb}
 use Rattle.records.specs.Digits.{chars, field_of}
-use Rattle.records.specs.Layout.{Part, text, mutation, number, Values, width, total, every, digit-part, mutation-part, values, said, refused, numbers}
+use Rattle.records.specs.Layout.{Part, text, mutation, number, Values, width, total, every, digit_part, mutation_part, values, said, refused, numbers}
 use Rattle.records.specs.declared.parts.Field.TheVariants.{Number, NoDigits}
-use Rattle.records.proofs.Bools.{and-off}
-use Rattle.records.proofs.Chars.{length-chars}
-use Rattle.records.proofs.Numbers.{field-digits, field-said, field_below, field-none}
+use Rattle.records.proofs.Bools.{and_off}
+use Rattle.records.proofs.Chars.{length_chars}
+use Rattle.records.proofs.Numbers.{field_digits, field_said, field_below, field_none}
 
 -- a field from the place on has no digits
 pub record Lacks (ps : List Part) (at : ℕ) (s : List ℕ) : Type 0 where
-  pub digits : every digit-part ps at s ≡ false
+  pub digits : every digit_part ps at s ≡ false
 
 pub here : {k : ℕ} {ps : List Part} {at : ℕ} {s : List ℕ} → field_of (chars s at k) ≡ NoDigits → Lacks (number k ∷ ps) at s
 unfolding every
-here e = record { digits = rw (field-none _ e) }
+here e = record { digits = rw (field_none _ e) }
 
-pub here-mutation : {ps : List Part} {at : ℕ} {s : List ℕ} → field_of (chars s at 1) ≡ NoDigits → Lacks (mutation ∷ ps) at s
+pub here_mutation : {ps : List Part} {at : ℕ} {s : List ℕ} → field_of (chars s at 1) ≡ NoDigits → Lacks (mutation ∷ ps) at s
 unfolding every
-here-mutation e = record { digits = rw (field-none _ e) }
+here_mutation e = record { digits = rw (field_none _ e) }
 
 pub later : {p : Part} {ps : List Part} {at : ℕ} {s : List ℕ} → Lacks ps (at + width p) s → Lacks (p ∷ ps) at s
 unfolding every
-later {p} {ps} {at} {s} l = record { digits = rw l.digits (and-off (digit-part p (chars s at (width p)))) }
+later {p} {ps} {at} {s} l = record { digits = rw l.digits (and_off (digit_part p (chars s at (width p)))) }
 
-pub no-digits : (ps : List Part) (s : List ℕ) → Lacks ps 0 s → refused 203 ≡ numbers ps s
+pub no_digits : (ps : List Part) (s : List ℕ) → Lacks ps 0 s → refused 203 ≡ numbers ps s
 unfolding numbers
-no-digits ps s l = rw l.digits
+no_digits ps s l = rw l.digits
 
 -- each field from the place on was read as its number
 abbrev pub Fields : (ps : List Part) → ℕ → List ℕ → Values ps → Type 0
@@ -47,11 +47,11 @@ Below (text t ∷ ps) v = Below ps v.1
 Below (mutation ∷ ps) v = (v.0 < 10) × Below ps v.1
 Below (number k ∷ ps) v = (v.0 < 10 ^ k) × Below ps v.1
 
-pub fields-below : (ps : List Part) (at : ℕ) (s : List ℕ) (v : Values ps) → Fields ps at s v → at + total ps ≤ length s → Below ps v
-fields-below [] at s v r h = tt
-fields-below (text t ∷ ps) at s v r h = fields-below ps (at + length t) s v.1 r (omega arith)
-fields-below (mutation ∷ ps) at s v r h = (field_below _ _ r.0 1 (length-chars s at 1 (omega arith)), fields-below ps (at + 1) s v.1 r.1 (omega arith))
-fields-below (number k ∷ ps) at s v r h = (field_below _ _ r.0 k (length-chars s at k (omega arith)), fields-below ps (at + k) s v.1 r.1 (omega arith))
+pub fields_below : (ps : List Part) (at : ℕ) (s : List ℕ) (v : Values ps) → Fields ps at s v → at + total ps ≤ length s → Below ps v
+fields_below [] at s v r h = tt
+fields_below (text t ∷ ps) at s v r h = fields_below ps (at + length t) s v.1 r (omega arith)
+fields_below (mutation ∷ ps) at s v r h = (field_below _ _ r.0 1 (length_chars s at 1 (omega arith)), fields_below ps (at + 1) s v.1 r.1 (omega arith))
+fields_below (number k ∷ ps) at s v r h = (field_below _ _ r.0 k (length_chars s at k (omega arith)), fields_below ps (at + k) s v.1 r.1 (omega arith))
 
 -- no mutation digit is above 3
 abbrev pub low : (ps : List Part) → Values ps → Bool
@@ -60,32 +60,32 @@ low (text t ∷ ps) v = low ps v.1
 low (mutation ∷ ps) v = leb v.0 3 && low ps v.1
 low (number k ∷ ps) v = low ps v.1
 
-fields-digits : (ps : List Part) (at : ℕ) (s : List ℕ) (v : Values ps) → Fields ps at s v → every digit-part ps at s ≡ true
+fields_digits : (ps : List Part) (at : ℕ) (s : List ℕ) (v : Values ps) → Fields ps at s v → every digit_part ps at s ≡ true
 unfolding every
-fields-digits [] at s v r = refl
-fields-digits (text t ∷ ps) at s v r = fields-digits ps (at + length t) s v.1 r
-fields-digits (mutation ∷ ps) at s v r = rw (field-digits _ _ r.0) (fields-digits ps (at + 1) s v.1 r.1)
-fields-digits (number k ∷ ps) at s v r = rw (field-digits _ _ r.0) (fields-digits ps (at + k) s v.1 r.1)
+fields_digits [] at s v r = refl
+fields_digits (text t ∷ ps) at s v r = fields_digits ps (at + length t) s v.1 r
+fields_digits (mutation ∷ ps) at s v r = rw (field_digits _ _ r.0) (fields_digits ps (at + 1) s v.1 r.1)
+fields_digits (number k ∷ ps) at s v r = rw (field_digits _ _ r.0) (fields_digits ps (at + k) s v.1 r.1)
 
-fields-low : (ps : List Part) (at : ℕ) (s : List ℕ) (v : Values ps) → Fields ps at s v → every mutation-part ps at s ≡ low ps v
+fields_low : (ps : List Part) (at : ℕ) (s : List ℕ) (v : Values ps) → Fields ps at s v → every mutation_part ps at s ≡ low ps v
 unfolding every
-fields-low [] at s v r = refl
-fields-low (text t ∷ ps) at s v r = fields-low ps (at + length t) s v.1 r
-fields-low (mutation ∷ ps) at s v r = rw (field-said _ _ r.0, fields-low ps (at + 1) s v.1 r.1)
-fields-low (number k ∷ ps) at s v r = fields-low ps (at + k) s v.1 r.1
+fields_low [] at s v r = refl
+fields_low (text t ∷ ps) at s v r = fields_low ps (at + length t) s v.1 r
+fields_low (mutation ∷ ps) at s v r = rw (field_said _ _ r.0, fields_low ps (at + 1) s v.1 r.1)
+fields_low (number k ∷ ps) at s v r = fields_low ps (at + k) s v.1 r.1
 
-fields-values : (ps : List Part) (at : ℕ) (s : List ℕ) (v : Values ps) → Fields ps at s v → values ps at s ≡ v
+fields_values : (ps : List Part) (at : ℕ) (s : List ℕ) (v : Values ps) → Fields ps at s v → values ps at s ≡ v
 unfolding values
-fields-values [] at s v r = refl
-fields-values (text t ∷ ps) at s v r = rw (fields-values ps (at + length t) s v.1 r)
-fields-values (mutation ∷ ps) at s v r = rw (field-said _ _ r.0, fields-values ps (at + 1) s v.1 r.1)
-fields-values (number k ∷ ps) at s v r = rw (field-said _ _ r.0, fields-values ps (at + k) s v.1 r.1)
+fields_values [] at s v r = refl
+fields_values (text t ∷ ps) at s v r = rw (fields_values ps (at + length t) s v.1 r)
+fields_values (mutation ∷ ps) at s v r = rw (field_said _ _ r.0, fields_values ps (at + 1) s v.1 r.1)
+fields_values (number k ∷ ps) at s v r = rw (field_said _ _ r.0, fields_values ps (at + k) s v.1 r.1)
 
 module _ (ps : List Part) (s : List ℕ) (v : Values ps) (r : Fields ps 0 s v) where
   pub high_digit : low ps v ≡ false → refused 204 ≡ numbers ps s
   unfolding numbers
-  high_digit h = rw (fields-digits ps 0 s v r, fields-low ps 0 s v r, h)
+  high_digit h = rw (fields_digits ps 0 s v r, fields_low ps 0 s v r, h)
 
   pub all_read : low ps v ≡ true → said v ≡ numbers ps s
   unfolding numbers
-  all_read h = rw (fields-digits ps 0 s v r, fields-low ps 0 s v r, h, fields-values ps 0 s v r)
+  all_read h = rw (fields_digits ps 0 s v r, fields_low ps 0 s v r, h, fields_values ps 0 s v r)

@@ -9,81 +9,81 @@ use native.Mathlib.Numerals.{add-one}
 use borrow.Author.Tests.{leb-true, le-leb, lt-leb}
 use lib.ListN.{length, get_or}
 use lib.Dec.{leb}
-use Rattle.records.specs.Digits.{chars, digits-only, horner, unless, field_of}
+use Rattle.records.specs.Digits.{chars, digits_only, horner, unless, field_of}
 use Rattle.decimals.proofs.Cases.{and_split}
-use Rattle.records.proofs.Chars.{chars-turn}
+use Rattle.records.proofs.Chars.{chars_turn}
 use Rattle.records.specs.declared.parts.Field.{Field}
 use Rattle.records.specs.declared.parts.Field.TheVariants.{Number, NoDigits}
 
 -- a field whose digits so far said n
-unfoldable pub field-from : ℕ → List ℕ → Field
-field-from n l = unless (digits-only l) NoDigits (Number (horner n l))
+unfoldable pub field_from : ℕ → List ℕ → Field
+field_from n l = unless (digits_only l) NoDigits (Number (horner n l))
 
-pub from_zero : (l : List ℕ) → field_of l ≡ field-from 0 l
-unfolding field_of field-from
+pub from_zero : (l : List ℕ) → field_of l ≡ field_from 0 l
+unfolding field_of field_from
 from_zero l = refl
 
-pub from_end : (n : ℕ) → field-from n [] ≡ Number n
-unfolding field-from
+pub from_end : (n : ℕ) → field_from n [] ≡ Number n
+unfolding field_from
 from_end n = refl
 
 -- a turn of the loop that reads a field, at its i-th character
 module _ (s : List ℕ) (at k i n : ℕ) (h : i < k) (j : at + k ≤ length s) where
-  pub from-digit : 48 ≤ get_or s (at + i) 0 → get_or s (at + i) 0 ≤ 57 → field-from n (chars s (at + i) (k - i)) ≡ field-from (n * 10 + (get_or s (at + i) 0 - 48)) (chars s (at + (i + 1)) (k - (i + 1)))
-  unfolding field-from
-  from-digit l u = rw (chars-turn s at k i h j, le-leb 48 _ l, le-leb _ 57 u)
+  pub from_digit : 48 ≤ get_or s (at + i) 0 → get_or s (at + i) 0 ≤ 57 → field_from n (chars s (at + i) (k - i)) ≡ field_from (n * 10 + (get_or s (at + i) 0 - 48)) (chars s (at + (i + 1)) (k - (i + 1)))
+  unfolding field_from
+  from_digit l u = rw (chars_turn s at k i h j, le-leb 48 _ l, le-leb _ 57 u)
 
-  pub from-below : get_or s (at + i) 0 < 48 → field-from n (chars s (at + i) (k - i)) ≡ NoDigits
-  unfolding field-from
-  from-below l = rw (chars-turn s at k i h j, lt-leb 48 _ l)
+  pub from_below : get_or s (at + i) 0 < 48 → field_from n (chars s (at + i) (k - i)) ≡ NoDigits
+  unfolding field_from
+  from_below l = rw (chars_turn s at k i h j, lt-leb 48 _ l)
 
-  pub from-above : 48 ≤ get_or s (at + i) 0 → 57 < get_or s (at + i) 0 → field-from n (chars s (at + i) (k - i)) ≡ NoDigits
-  unfolding field-from
-  from-above l u = rw (chars-turn s at k i h j, le-leb 48 _ l, lt-leb _ 57 u)
+  pub from_above : 48 ≤ get_or s (at + i) 0 → 57 < get_or s (at + i) 0 → field_from n (chars s (at + i) (k - i)) ≡ NoDigits
+  unfolding field_from
+  from_above l u = rw (chars_turn s at k i h j, le-leb 48 _ l, lt-leb _ 57 u)
 
 pub pow_more : (i : ℕ) → 10 ^ (i + 1) ≡ 10 ^ i * 10
 pow_more i = rw add-one (pow-suc 10 i)
 
-pub pow-most : (i : ℕ) → i ≤ 12 → 10 ^ i ≤ 10 ^ 12
-pow-most i h = pow-le-pow_right (omega arith) h
+pub pow_most : (i : ℕ) → i ≤ 12 → 10 ^ i ≤ 10 ^ 12
+pow_most i h = pow-le-pow_right (omega arith) h
 
-pub digit_split : (d : ℕ) (l : List ℕ) → digits-only (d ∷ l) ≡ true → (48 ≤ d) × (d ≤ 57) × (digits-only l ≡ true)
+pub digit_split : (d : ℕ) (l : List ℕ) → digits_only (d ∷ l) ≡ true → (48 ≤ d) × (d ≤ 57) × (digits_only l ≡ true)
 digit_split d l e =
-    let p = and_split (leb 48 d && leb d 57) (digits-only l) e in
+    let p = and_split (leb 48 d && leb d 57) (digits_only l) e in
     let q = and_split (leb 48 d) (leb d 57) p.0 in
     (leb-true 48 d q.0, leb-true d 57 q.1, p.1)
 
-horner-below : (a k : ℕ) (l : List ℕ) → a < k → digits-only l ≡ true → horner a l < k * 10 ^ length l
-horner-below a k [] h e = simp mul-one h
-horner-below a k (d ∷ l) h e =
+horner_below : (a k : ℕ) (l : List ℕ) → a < k → digits_only l ≡ true → horner a l < k * 10 ^ length l
+horner_below a k [] h e = simp mul-one h
+horner_below a k (d ∷ l) h e =
     let p = digit_split d l e in
     let j : a * 10 + (d - 48) < k * 10 = omega arith in
-    rw (pow-suc 10 (length l), mul_comm (10 ^ length l) 10, ← mul_assoc k 10 (10 ^ length l)) (horner-below (a * 10 + (d - 48)) (k * 10) l j p.2)
+    rw (pow-suc 10 (length l), mul_comm (10 ^ length l) 10, ← mul_assoc k 10 (10 ^ length l)) (horner_below (a * 10 + (d - 48)) (k * 10) l j p.2)
 
-pub said-below : (l : List ℕ) → digits-only l ≡ true → horner 0 l < 10 ^ length l
-said-below l e = omega (arith, horner-below 0 1 l (omega arith) e)
+pub said_below : (l : List ℕ) → digits_only l ≡ true → horner 0 l < 10 ^ length l
+said_below l e = omega (arith, horner_below 0 1 l (omega arith) e)
 
-field-split : (b : Bool) (m n : ℕ) → unless b NoDigits (Number m) ≡ Number n → (b ≡ true) × (m ≡ n)
-field-split true m n e = (refl, cc)
-field-split false m n e = absurd (let z : ◌≡◌ {A = ℕ} 0 1 = cc in let y : ⊥ = omega arith in y)
+field_split : (b : Bool) (m n : ℕ) → unless b NoDigits (Number m) ≡ Number n → (b ≡ true) × (m ≡ n)
+field_split true m n e = (refl, cc)
+field_split false m n e = absurd (let z : ◌≡◌ {A = ℕ} 0 1 = cc in let y : ⊥ = omega arith in y)
 
-field-lost : (b : Bool) (m : ℕ) → unless b NoDigits (Number m) ≡ NoDigits → b ≡ false
-field-lost true m e = absurd (let z : ◌≡◌ {A = ℕ} 0 1 = cc in let y : ⊥ = omega arith in y)
-field-lost false m e = refl
+field_lost : (b : Bool) (m : ℕ) → unless b NoDigits (Number m) ≡ NoDigits → b ≡ false
+field_lost true m e = absurd (let z : ◌≡◌ {A = ℕ} 0 1 = cc in let y : ⊥ = omega arith in y)
+field_lost false m e = refl
 
 -- what a field that was read tells of its characters
 module _ (l : List ℕ) (n : ℕ) (e : field_of l ≡ Number n) where
-  pub field-digits : digits-only l ≡ true
+  pub field_digits : digits_only l ≡ true
   unfolding field_of
-  field-digits = (field-split (digits-only l) (horner 0 l) n e).0
+  field_digits = (field_split (digits_only l) (horner 0 l) n e).0
 
-  pub field-said : horner 0 l ≡ n
+  pub field_said : horner 0 l ≡ n
   unfolding field_of
-  field-said = (field-split (digits-only l) (horner 0 l) n e).1
+  field_said = (field_split (digits_only l) (horner 0 l) n e).1
 
   pub field_below : (k : ℕ) → length l ≡ k → n < 10 ^ k
-  field_below k h = rw (← field-said, ← h) (said-below l field-digits)
+  field_below k h = rw (← field_said, ← h) (said_below l field_digits)
 
-pub field-none : (l : List ℕ) → field_of l ≡ NoDigits → digits-only l ≡ false
+pub field_none : (l : List ℕ) → field_of l ≡ NoDigits → digits_only l ≡ false
 unfolding field_of
-field-none l e = field-lost (digits-only l) (horner 0 l) e
+field_none l e = field_lost (digits_only l) (horner 0 l) e

@@ -10,7 +10,7 @@ use lib.Seq.{take_at, drop_at, length-take-le}
 use lib.Dec.{leb}
 use Rattle.records.specs.Digits.{chars, unless}
 use Rattle.records.specs.Layout.{Part, Values, total, fits, spell, answer, leaving}
-use Rattle.records.proofs.Spelling.{length-spell}
+use Rattle.records.proofs.Spelling.{length_spell}
 
 split : (b c : Bool) → ◌≡◌ {A = ℕ} (unless b 205 (unless c 206 0)) 0 → (b ≡ true) × (c ≡ true)
 split true true e = (refl, refl)
@@ -18,39 +18,39 @@ split true false e = absurd (let y : ⊥ = omega arith in y)
 split false c e = absurd (let y : ⊥ = omega arith in y)
 
 module _ (ps : List Part) (v : Values ps) (at : ℕ) (old : List ℕ) where
-  pub too-wide-leaves : answer ps v at (length old) ≡ 205 → leaving ps v at old ≡ old
+  pub too_wide_leaves : answer ps v at (length old) ≡ 205 → leaving ps v at old ≡ old
   unfolding leaving
-  too-wide-leaves e = rw e
+  too_wide_leaves e = rw e
 
-  pub no-room-leaves : answer ps v at (length old) ≡ 206 → leaving ps v at old ≡ old
+  pub no_room_leaves : answer ps v at (length old) ≡ 206 → leaving ps v at old ≡ old
   unfolding leaving
-  no-room-leaves e = rw e
+  no_room_leaves e = rw e
 
 module _ (ps : List Part) (v : Values ps) (at : ℕ) (old : List ℕ) (done : answer ps v at (length old) ≡ 0) where
-  pub done-fits : fits ps v ≡ true
+  pub done_fits : fits ps v ≡ true
   unfolding answer
-  done-fits = (split (fits ps v) (leb (at + total ps) (length old)) done).0
+  done_fits = (split (fits ps v) (leb (at + total ps) (length old)) done).0
 
-  pub done-room : at + total ps ≤ length old
+  pub done_room : at + total ps ≤ length old
   unfolding answer
-  done-room = leb-true (at + total ps) (length old) (split (fits ps v) (leb (at + total ps) (length old)) done).1
+  done_room = leb-true (at + total ps) (length old) (split (fits ps v) (leb (at + total ps) (length old)) done).1
 
   before : length (take at old) ≡ at
-  before = length-take-le at old (omega (arith, done-room))
+  before = length-take-le at old (omega (arith, done_room))
 
-  pub done-before : take at (leaving ps v at old) ≡ take at old
+  pub done_before : take at (leaving ps v at old) ≡ take at old
   unfolding leaving
-  done-before = rw done (take_at (take at old) (spell ps v ++ drop (at + length (spell ps v)) old) at before)
+  done_before = rw done (take_at (take at old) (spell ps v ++ drop (at + length (spell ps v)) old) at before)
 
-  pub done-there : chars (leaving ps v at old) at (total ps) ≡ spell ps v
+  pub done_there : chars (leaving ps v at old) at (total ps) ≡ spell ps v
   unfolding leaving
-  done-there =
+  done_there =
       rw (done, drop_at (take at old) (spell ps v ++ drop (at + length (spell ps v)) old) at before)
-      (take_at (spell ps v) (drop (at + length (spell ps v)) old) (total ps) (length-spell ps v))
+      (take_at (spell ps v) (drop (at + length (spell ps v)) old) (total ps) (length_spell ps v))
 
-  pub done-after : drop (at + total ps) (leaving ps v at old) ≡ drop (at + total ps) old
+  pub done_after : drop (at + total ps) (leaving ps v at old) ≡ drop (at + total ps) old
   unfolding leaving
-  done-after =
-      let start : length (take at old ++ spell ps v) ≡ at + total ps = rw (length-append (take at old) (spell ps v), before, length-spell ps v) in
-      rw (done, length-spell ps v, ← append_assoc (take at old) (spell ps v) (drop (at + total ps) old))
+  done_after =
+      let start : length (take at old ++ spell ps v) ≡ at + total ps = rw (length-append (take at old) (spell ps v), before, length_spell ps v) in
+      rw (done, length_spell ps v, ← append_assoc (take at old) (spell ps v) (drop (at + total ps) old))
       (drop_at (take at old ++ spell ps v) (drop (at + total ps) old) (at + total ps) start)

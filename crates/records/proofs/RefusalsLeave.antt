@@ -8,18 +8,18 @@ use Rattle.records.specs.File.{File, writing, leaves}
 use Rattle.records.proofs.Placed as placed
 
 module _ {Record : Type 0} (f : File Record) (r : Record) (at : ℕ) (old : List ℕ) where
-  pub too-wide-leaves : writing f r at (length old) ≡ 205 → leaves f r at old ≡ old
+  pub too_wide_leaves : writing f r at (length old) ≡ 205 → leaves f r at old ≡ old
   unfolding writing leaves
-  too-wide-leaves e = placed.too-wide-leaves f.layout (f.values_of r) at old e
+  too_wide_leaves e = placed.too_wide_leaves f.layout (f.values_of r) at old e
 
-  pub no-room-leaves : writing f r at (length old) ≡ 206 → leaves f r at old ≡ old
+  pub no_room_leaves : writing f r at (length old) ≡ 206 → leaves f r at old ≡ old
   unfolding writing leaves
-  no-room-leaves e = placed.no-room-leaves f.layout (f.values_of r) at old e
+  no_room_leaves e = placed.no_room_leaves f.layout (f.values_of r) at old e
 
-  pub done-before : writing f r at (length old) ≡ 0 → take at (leaves f r at old) ≡ take at old
+  pub done_before : writing f r at (length old) ≡ 0 → take at (leaves f r at old) ≡ take at old
   unfolding writing leaves
-  done-before e = placed.done-before f.layout (f.values_of r) at old e
+  done_before e = placed.done_before f.layout (f.values_of r) at old e
 
-  pub done-after : writing f r at (length old) ≡ 0 → drop (at + total f.layout) (leaves f r at old) ≡ drop (at + total f.layout) old
+  pub done_after : writing f r at (length old) ≡ 0 → drop (at + total f.layout) (leaves f r at old) ≡ drop (at + total f.layout) old
   unfolding writing leaves
-  done-after e = placed.done-after f.layout (f.values_of r) at old e
+  done_after e = placed.done_after f.layout (f.values_of r) at old e

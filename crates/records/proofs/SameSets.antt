@@ -4,9 +4,9 @@ use mathlib.Core.Bool.{true}
 use mathlib.Core.List.{List}
 use mathlib.Core.Path.{◌≡◌, ap, sym, ◌∙◌}
 use Rattle.records.specs.Layout.{said}
-use Rattle.records.specs.File.{File, reading, writable, chars-of}
-use Rattle.records.proofs.ReadsBack.{reads-back}
-use Rattle.records.proofs.WritesBack.{read-writable, writes-back}
+use Rattle.records.specs.File.{File, reading, writable, chars_of}
+use Rattle.records.proofs.ReadsBack.{reads_back}
+use Rattle.records.proofs.WritesBack.{read_writable, writes_back}
 
 pub record IsRead {Record : Type 0} (f : File Record) (s : List ℕ) : Type 0 where
   pub of : Record
@@ -15,11 +15,11 @@ pub record IsRead {Record : Type 0} (f : File Record) (s : List ℕ) : Type 0 wh
 pub record IsWritten {Record : Type 0} (f : File Record) (s : List ℕ) : Type 0 where
   pub of : Record
   pub fits : writable f of ≡ true
-  pub wrote : chars-of f of ≡ s
+  pub wrote : chars_of f of ≡ s
 
 module _ {Record : Type 0} (f : File Record) (s : List ℕ) where
-  pub read-is-written : IsRead f s → IsWritten f s
-  read-is-written x = record { of = x.of; fits = read-writable f s x.of x.read; wrote = writes-back f s x.of x.read }
+  pub read_is_written : IsRead f s → IsWritten f s
+  read_is_written x = record { of = x.of; fits = read_writable f s x.of x.read; wrote = writes_back f s x.of x.read }
 
-  pub written-is-read : IsWritten f s → IsRead f s
-  written-is-read x = record { of = x.of; read = ap (reading f) (sym x.wrote) ∙ reads-back f x.of x.fits }
+  pub written_is_read : IsWritten f s → IsRead f s
+  written_is_read x = record { of = x.of; read = ap (reading f) (sym x.wrote) ∙ reads_back f x.of x.fits }

@@ -15,14 +15,14 @@ length_digits zero n = refl
 length_digits (suc k) n = length-append (digits k (n / 10)) ((48 + n % 10) ∷ []) ∙ (ap (λ (m : ℕ). m + 1) (length_digits k (n / 10)) ∙ omega arith)
 
 -- a turn of the loop that puts digits, last digit first
-pub digits-turn : (b : List ℕ) (at m n : ℕ) → 0 < m → sets b at (digits m n) ≡ sets (set b (at + (m - 1)) (48 + n % 10)) at (digits (m - 1) (n / 10))
+pub digits_turn : (b : List ℕ) (at m n : ℕ) → 0 < m → sets b at (digits m n) ≡ sets (set b (at + (m - 1)) (48 + n % 10)) at (digits (m - 1) (n / 10))
 unfolding digits
-digits-turn b at zero n h = absurd (not-suc-le-zero h)
-digits-turn b at (suc m) n h =
+digits_turn b at zero n h = absurd (not-suc-le-zero h)
+digits_turn b at (suc m) n h =
     let e : suc m - 1 ≡ m = omega arith in
     rw e (sets_last b at (digits m (n / 10)) (48 + n % 10) ∙ ap (λ (k : ℕ). sets (set b (at + k) (48 + n % 10)) at (digits m (n / 10))) (length_digits m (n / 10)))
 
-pub digits-end : (b : List ℕ) (at m n : ℕ) → m ≤ 0 → sets b at (digits m n) ≡ b
+pub digits_end : (b : List ℕ) (at m n : ℕ) → m ≤ 0 → sets b at (digits m n) ≡ b
 unfolding digits
-digits-end b at zero n h = refl
-digits-end b at (suc m) n h = absurd (not-suc-le-zero h)
+digits_end b at zero n h = refl
+digits_end b at (suc m) n h = absurd (not-suc-le-zero h)

@@ -22,9 +22,9 @@ unfoldable pub digits : ℕ → ℕ → List ℕ
 digits zero n = []
 digits (suc k) n = digits k (n / 10) ++ ((48 + n % 10) ∷ [])
 
-abbrev pub digits-only : List ℕ → Bool
-digits-only [] = true
-digits-only (d ∷ l) = (leb 48 d && leb d 57) && digits-only l
+abbrev pub digits_only : List ℕ → Bool
+digits_only [] = true
+digits_only (d ∷ l) = (leb 48 d && leb d 57) && digits_only l
 
 -- the number that digits say, after the number a
 abbrev pub horner : ℕ → List ℕ → ℕ
@@ -33,4 +33,4 @@ horner a (d ∷ l) = horner (a * 10 + (d - 48)) l
 
 -- the number of a field, where it has digits only
 unfoldable pub field_of : List ℕ → Field
-field_of l = unless (digits-only l) NoDigits (Number (horner 0 l))
+field_of l = unless (digits_only l) NoDigits (Number (horner 0 l))

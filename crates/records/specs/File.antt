@@ -7,8 +7,8 @@ pub record File (Record : Type 0) : Type 0 where
   pub layout : List Part
   pub record_of : Values layout → Record
   pub values_of : Record → Values layout
-  pub values-back : (v : Values layout) → values_of (record_of v) ≡ v
-  pub record-back : (r : Record) → record_of (values_of r) ≡ r
+  pub values_back : (v : Values layout) → values_of (record_of v) ≡ v
+  pub record_back : (r : Record) → record_of (values_of r) ≡ r
 
 module _ {Record : Type 0} (f : File Record) where
   -- the record that the characters say, or 201, 202, 203, 204 in that order
@@ -20,8 +20,8 @@ module _ {Record : Type 0} (f : File Record) where
   writable r = fits f.layout (f.values_of r)
 
   -- the characters of a record
-  unfoldable pub chars-of : Record → List ℕ
-  chars-of r = spell f.layout (f.values_of r)
+  unfoldable pub chars_of : Record → List ℕ
+  chars_of r = spell f.layout (f.values_of r)
 
   -- what writing at a place answers, by the buffer's length: 0, or 205 before 206
   unfoldable pub writing : Record → ℕ → ℕ → ℕ

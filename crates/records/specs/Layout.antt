@@ -1,6 +1,6 @@
 -- A file's record as a list of parts, and what reading and writing such a record mean, whatever the file, in document 01's numbers. Assumes nothing.
 use Rattle.std.specs.Prelude.{ℕ, zero, suc, ◌+◌, ◌^◌, Bool, true, ◌&&◌, List, [], ◌∷◌, ◌++◌, length, take, drop, leb, ltb, eqb}
-use Rattle.records.specs.Digits.{chars, unless, same, digits, digits-only, horner}
+use Rattle.records.specs.Digits.{chars, unless, same, digits, digits_only, horner}
 
 -- fixed text; the mutation digit, 0 to 3; a number of so many digits
 pub data Part : Type 0 where
@@ -41,22 +41,22 @@ total [] = 0
 total (p ∷ ps) = width p + total ps
 
 -- 202: a fixed part differs
-abbrev pub fixed-part : Part → List ℕ → Bool
-fixed-part (text t) c = same t c
-fixed-part mutation c = true
-fixed-part (number k) c = true
+abbrev pub fixed_part : Part → List ℕ → Bool
+fixed_part (text t) c = same t c
+fixed_part mutation c = true
+fixed_part (number k) c = true
 
 -- 203: a digit is expected and absent
-abbrev pub digit-part : Part → List ℕ → Bool
-digit-part (text t) c = true
-digit-part mutation c = digits-only c
-digit-part (number k) c = digits-only c
+abbrev pub digit_part : Part → List ℕ → Bool
+digit_part (text t) c = true
+digit_part mutation c = digits_only c
+digit_part (number k) c = digits_only c
 
 -- 204: the mutation digit is above 3
-abbrev pub mutation-part : Part → List ℕ → Bool
-mutation-part (text t) c = true
-mutation-part mutation c = leb (horner 0 c) 3
-mutation-part (number k) c = true
+abbrev pub mutation_part : Part → List ℕ → Bool
+mutation_part (text t) c = true
+mutation_part mutation c = leb (horner 0 c) 3
+mutation_part (number k) c = true
 
 -- every part, from the place at on, passes the test
 unfoldable pub every : (Part → List ℕ → Bool) → List Part → ℕ → List ℕ → Bool
@@ -83,26 +83,26 @@ read_by f (refused n) = refused n
 
 unfoldable pub numbers : (ps : List Part) → List ℕ → Reading (Values ps)
 numbers ps s =
-    unless (every digit-part ps 0 s) (refused 203)
-    (unless (every mutation-part ps 0 s) (refused 204)
+    unless (every digit_part ps 0 s) (refused 203)
+    (unless (every mutation_part ps 0 s) (refused 204)
     (said (values ps 0 s)))
 
 -- reading a record: the tests in document 01's order, all fixed parts before any digit
 unfoldable pub scan : (ps : List Part) → List ℕ → Reading (Values ps)
 scan ps s =
     unless (eqb (length s) (total ps)) (refused 201)
-    (unless (every fixed-part ps 0 s) (refused 202)
+    (unless (every fixed_part ps 0 s) (refused 202)
     (numbers ps s))
 
 -- 205: a number is too wide, or the mutation digit above 3
-abbrev pub fits-part : (p : Part) → Value p → Bool
-fits-part (text t) v = true
-fits-part mutation v = leb v 3
-fits-part (number k) v = ltb v (10 ^ k)
+abbrev pub fits_part : (p : Part) → Value p → Bool
+fits_part (text t) v = true
+fits_part mutation v = leb v 3
+fits_part (number k) v = ltb v (10 ^ k)
 
 unfoldable pub fits : (ps : List Part) → Values ps → Bool
 fits [] v = true
-fits (p ∷ ps) v = fits-part p v.0 && fits ps v.1
+fits (p ∷ ps) v = fits_part p v.0 && fits ps v.1
 
 abbrev pub spelt : (p : Part) → Value p → List ℕ
 spelt (text t) v = t

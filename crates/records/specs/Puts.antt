@@ -22,5 +22,5 @@ rest (suc k) (p ∷ ps) v = rest k ps v.1
 abbrev pub puts_first : (k : ℕ) (ps : List Part) → Values ps → List ℕ → ℕ → List ℕ
 puts_first k ps v buf at = puts (take k ps) (first k ps v) buf at 0
 
-abbrev pub puts-rest : (k : ℕ) (ps : List Part) → Values ps → List ℕ → ℕ → List ℕ
-puts-rest k ps v buf at = puts (drop k ps) (rest k ps v) buf at (total (take k ps))
+abbrev pub puts_rest : (k : ℕ) (ps : List Part) → Values ps → List ℕ → ℕ → List ℕ
+puts_rest k ps v buf at = puts (drop k ps) (rest k ps v) buf at (total (take k ps))

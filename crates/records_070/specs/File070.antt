@@ -3,14 +3,14 @@ use Rattle.std.specs.Prelude.{List, [], ◌∷◌, refl}
 use Rattle.records.specs.Ascii.{ascii, spaces}
 use Rattle.records.specs.Layout.{Part, text, mutation, number, Values, Reading, said, refused}
 use Rattle.records.specs.File.{File}
-use Rattle.records.specs.Numbers.{read-refusal}
+use Rattle.records.specs.Numbers.{read_refusal}
 use Rattle.records_070.specs.declared.Record070.{Record070}
 use Rattle.records_070.specs.declared.Read070.{Read070}
 use Rattle.records_070.specs.declared.Read070.TheVariants.{Record, Refused}
 
 -- 64 characters. The numbers are HPKODE at 6 to 13, PRKODE 14 to 21, HPANPR 22 to 27, GPKODE 28 to 35, PRANGP 36 to 41 and HPANGP 42 to 47; spaces from 48 on.
-abbrev pub layout-070 : List Part
-layout-070 =
+abbrev pub layout_070 : List Part
+layout_070 =
     text (ascii "0070")
     ∷ mutation
     ∷ number 8
@@ -22,16 +22,16 @@ layout-070 =
     ∷ text (spaces 17)
     ∷ []
 
-abbrev pub record-070 : Values layout-070 → Record070
-record-070 (_, (m, (h, (p, (hp, (g, (pg, (hg, _)))))))) = record { mutation = m; hpkode = h; prkode = p; hpanpr = hp; gpkode = g; prangp = pg; hpangp = hg }
+abbrev pub record_070 : Values layout_070 → Record070
+record_070 (_, (m, (h, (p, (hp, (g, (pg, (hg, _)))))))) = record { mutation = m; hpkode = h; prkode = p; hpanpr = hp; gpkode = g; prangp = pg; hpangp = hg }
 
-abbrev pub values-070 : Record070 → Values layout-070
-values-070 r = (tt, (r.mutation, (r.hpkode, (r.prkode, (r.hpanpr, (r.gpkode, (r.prangp, (r.hpangp, (tt, tt)))))))))
+abbrev pub values_070 : Record070 → Values layout_070
+values_070 r = (tt, (r.mutation, (r.hpkode, (r.prkode, (r.hpanpr, (r.gpkode, (r.prangp, (r.hpangp, (tt, tt)))))))))
 
-unfoldable pub file-070 : File Record070
-file-070 = record { layout = layout-070; record_of = record-070; values_of = values-070; values-back = λ v. refl; record-back = λ r. refl }
+unfoldable pub file_070 : File Record070
+file_070 = record { layout = layout_070; record_of = record_070; values_of = values_070; values_back = λ v. refl; record_back = λ r. refl }
 
 -- a result as the record or the number of the refusal
-abbrev pub says-070 : Read070 → Reading Record070
-says-070 (Record r) = said r
-says-070 (Refused e) = refused (read-refusal e)
+abbrev pub says_070 : Read070 → Reading Record070
+says_070 (Record r) = said r
+says_070 (Refused e) = refused (read_refusal e)

@@ -1,10 +1,10 @@
 // File 070, 64 characters: the PRK and the GPK of a HPK, and how many of the one are in the other.
 ghost use Rattle.std.specs.Prelude.{◌≡◌, ◌+◌, ◌≤◌, length};
-ghost use Rattle.records.specs.Layout.{every, fixed-part, read_by, numbers, fits};
+ghost use Rattle.records.specs.Layout.{every, fixed_part, read_by, numbers, fits};
 ghost use Rattle.records.specs.File.{reading, writing, leaves};
-ghost use Rattle.records_070.specs.File070.{layout-070, values-070, record-070, file-070, says-070};
-ghost use Rattle.records.specs.Numbers.{write-number};
-ghost use Rattle.records.specs.Puts.{puts_first, puts-rest};
+ghost use Rattle.records_070.specs.File070.{layout_070, values_070, record_070, file_070, says_070};
+ghost use Rattle.records.specs.Numbers.{write_number};
+ghost use Rattle.records.specs.Puts.{puts_first, puts_rest};
 
 use decimals::put_text;
 use records::parts::{Field, has_room, is_text, number_at, put_digits};
@@ -62,7 +62,7 @@ const HIGHEST_CODE: u32 = 99999999;
 const HIGHEST_COUNT: u32 = 999999;
 
 pub fn read_070(s: &[u8]) -> Read070
-    ensures { says-070 result ≡ reading file-070 s.now }
+    ensures { says_070 result ≡ reading file_070 s.now }
 {
     if s.len() != LENGTH_070 {
         return Read070::Refused(ReadRefusal::Length);
@@ -75,7 +75,7 @@ pub fn read_070(s: &[u8]) -> Read070
 
 fn fixed_070(s: &[u8]) -> bool
     requires { length s.now ≡ 64 }
-    ensures { result ≡ every fixed-part layout-070 0 s.now }
+    ensures { result ≡ every fixed_part layout_070 0 s.now }
 {
     if !is_text(s, BSTNUM, b"0070") {
         return false;
@@ -85,7 +85,7 @@ fn fixed_070(s: &[u8]) -> bool
 
 fn numbers_070(s: &[u8]) -> Read070
     requires { length s.now ≡ 64 }
-    ensures { says-070 result ≡ read_by record-070 (numbers layout-070 s.now) }
+    ensures { says_070 result ≡ read_by record_070 (numbers layout_070 s.now) }
 {
     let Field::Number(mutation) = number_at(s, MUTKOD, MUTKOD_WIDTH) else {
         return Read070::Refused(ReadRefusal::Digit);
@@ -123,7 +123,7 @@ fn numbers_070(s: &[u8]) -> Read070
 }
 
 pub fn write_070(buf: &mut [u8], at: usize, r: Record070) -> Written
-    ensures { (write-number result ≡ writing file-070 r at (length buf.old)) × (buf.new ≡ leaves file-070 r at buf.old) }
+    ensures { (write_number result ≡ writing file_070 r at (length buf.old)) × (buf.new ≡ leaves file_070 r at buf.old) }
 {
     let fits = fits_070(r);
     let room = has_room(buf.len(), at, LENGTH_070);
@@ -139,7 +139,7 @@ pub fn write_070(buf: &mut [u8], at: usize, r: Record070) -> Written
 }
 
 fn fits_070(r: Record070) -> bool
-    ensures { result ≡ fits layout-070 (values-070 r) }
+    ensures { result ≡ fits layout_070 (values_070 r) }
 {
     let mutation = r.mutation as u64;
     let hpkode = r.hpkode;
@@ -175,7 +175,7 @@ fn fits_070(r: Record070) -> bool
 // To the end of HPANPR.
 fn put_front(buf: &mut [u8], at: usize, r: Record070)
     requires { at + 64 ≤ length buf.old }
-    ensures { buf.new ≡ puts_first 5 layout-070 (values-070 r) buf.old at }
+    ensures { buf.new ≡ puts_first 5 layout_070 (values_070 r) buf.old at }
 {
     put_text(buf, at + BSTNUM, b"0070");
     put_digits(buf, at + MUTKOD, MUTKOD_WIDTH, r.mutation as u64);
@@ -187,7 +187,7 @@ fn put_front(buf: &mut [u8], at: usize, r: Record070)
 // From GPKODE on.
 fn put_back(buf: &mut [u8], at: usize, r: Record070)
     requires { at + 64 ≤ length buf.old }
-    ensures { buf.new ≡ puts-rest 5 layout-070 (values-070 r) buf.old at }
+    ensures { buf.new ≡ puts_rest 5 layout_070 (values_070 r) buf.old at }
 {
     put_digits(buf, at + GPKODE, CODE_WIDTH, r.gpkode as u64);
     put_digits(buf, at + PRANGP, COUNT_WIDTH, r.prangp as u64);

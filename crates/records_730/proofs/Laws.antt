@@ -5,19 +5,19 @@ use mathlib.Core.List.{List}
 use mathlib.Core.Path.{◌≡◌, refl, ap}
 use Rattle.records.specs.Layout.{Reading, said, refused}
 use Rattle.records.specs.File.{reading, writable}
-use Rattle.records.proofs.Bounds.{writable-within, within-writable}
-use Rattle.records.proofs.WritesBack.{read-writable}
-use Rattle.records.proofs.EveryFile.{Holds, every-file}
-use Rattle.records.proofs.OneResult.{once, refusal, refusal-back}
-use Rattle.records_730.specs.File730.{file-730, says-730}
+use Rattle.records.proofs.Bounds.{writable_within, within_writable}
+use Rattle.records.proofs.WritesBack.{read_writable}
+use Rattle.records.proofs.EveryFile.{Holds, every_file}
+use Rattle.records.proofs.OneResult.{once, refusal, refusal_back}
+use Rattle.records_730.specs.File730.{file_730, says_730}
 use Rattle.records_730.specs.declared.Record730.{Record730}
 use Rattle.records_730.specs.declared.Read730.{Read730}
 use Rattle.records_730.specs.declared.Read730.TheVariants.{Record, Refused}
 
 -- round trip both ways, the two sets, what a write leaves, and the refusals' numbers
-pub holds-730 : Holds file-730 64
-unfolding file-730
-holds-730 = every-file file-730
+pub holds_730 : Holds file_730 64
+unfolding file_730
+holds_730 = every_file file_730
 
 pub record Bounds730 (r : Record730) : Type 0 where
   pub mutation : r.mutation ≤ 3
@@ -26,26 +26,26 @@ pub record Bounds730 (r : Record730) : Type 0 where
   pub cdhoev : r.cdhoev < 10 ^ 12
   pub cdeenh : r.cdeenh < 10 ^ 6
 
-pub writable-bounds-730 : (r : Record730) → writable file-730 r ≡ true → Bounds730 r
-unfolding file-730
-writable-bounds-730 r w =
-    let (mutation, (srtcde, (code, (cdhoev, (cdeenh, _))))) = writable-within file-730 r w in
+pub writable_bounds_730 : (r : Record730) → writable file_730 r ≡ true → Bounds730 r
+unfolding file_730
+writable_bounds_730 r w =
+    let (mutation, (srtcde, (code, (cdhoev, (cdeenh, _))))) = writable_within file_730 r w in
     record { mutation = mutation; srtcde = srtcde; code = code; cdhoev = cdhoev; cdeenh = cdeenh }
 
-pub bounds-writable-730 : (r : Record730) → Bounds730 r → writable file-730 r ≡ true
-unfolding file-730
-bounds-writable-730 r b = within-writable file-730 r (b.mutation, (b.srtcde, (b.code, (b.cdhoev, (b.cdeenh, tt)))))
+pub bounds_writable_730 : (r : Record730) → Bounds730 r → writable file_730 r ≡ true
+unfolding file_730
+bounds_writable_730 r b = within_writable file_730 r (b.mutation, (b.srtcde, (b.code, (b.cdhoev, (b.cdeenh, tt)))))
 
-pub read-bounds-730 : (s : List ℕ) (r : Record730) → reading file-730 s ≡ said r → Bounds730 r
-read-bounds-730 s r e = writable-bounds-730 r (read-writable file-730 s r e)
+pub read_bounds_730 : (s : List ℕ) (r : Record730) → reading file_730 s ≡ said r → Bounds730 r
+read_bounds_730 s r e = writable_bounds_730 r (read_writable file_730 s r e)
 
 abbrev result : Reading Record730 → Read730
 result (said r) = Record r
 result (refused n) = Refused (refusal n)
 
-result-back : (x : Read730) → result (says-730 x) ≡ x
-result-back (Record r) = refl
-result-back (Refused e) = ap Refused (refusal-back e)
+result_back : (x : Read730) → result (says_730 x) ≡ x
+result_back (Record r) = refl
+result_back (Refused e) = ap Refused (refusal_back e)
 
-pub read-once-730 : (a b : Read730) → says-730 a ≡ says-730 b → a ≡ b
-read-once-730 = once says-730 result result-back
+pub read_once_730 : (a b : Read730) → says_730 a ≡ says_730 b → a ≡ b
+read_once_730 = once says_730 result result_back

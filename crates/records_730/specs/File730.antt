@@ -3,14 +3,14 @@ use Rattle.std.specs.Prelude.{List, [], ◌∷◌, refl}
 use Rattle.records.specs.Ascii.{ascii, spaces}
 use Rattle.records.specs.Layout.{Part, text, mutation, number, Values, Reading, said, refused}
 use Rattle.records.specs.File.{File}
-use Rattle.records.specs.Numbers.{read-refusal}
+use Rattle.records.specs.Numbers.{read_refusal}
 use Rattle.records_730.specs.declared.Record730.{Record730}
 use Rattle.records_730.specs.declared.Read730.{Read730}
 use Rattle.records_730.specs.declared.Read730.TheVariants.{Record, Refused}
 
 -- 64 characters. The numbers are SRTCDE, CODE, CDHOEV (nine whole, three decimal digits) and CDEENH.
-abbrev pub layout-730 : List Part
-layout-730 =
+abbrev pub layout_730 : List Part
+layout_730 =
     text (ascii "0730")
     ∷ mutation
     ∷ text (ascii "1850")
@@ -22,16 +22,16 @@ layout-730 =
     ∷ text (spaces 19)
     ∷ []
 
-abbrev pub record-730 : Values layout-730 → Record730
-record-730 (_, (m, (_, (s, (c, (h, (_, (e, _)))))))) = record { mutation = m; srtcde = s; code = c; cdhoev = h; cdeenh = e }
+abbrev pub record_730 : Values layout_730 → Record730
+record_730 (_, (m, (_, (s, (c, (h, (_, (e, _)))))))) = record { mutation = m; srtcde = s; code = c; cdhoev = h; cdeenh = e }
 
-abbrev pub values-730 : Record730 → Values layout-730
-values-730 r = (tt, (r.mutation, (tt, (r.srtcde, (r.code, (r.cdhoev, (tt, (r.cdeenh, (tt, tt)))))))))
+abbrev pub values_730 : Record730 → Values layout_730
+values_730 r = (tt, (r.mutation, (tt, (r.srtcde, (r.code, (r.cdhoev, (tt, (r.cdeenh, (tt, tt)))))))))
 
-unfoldable pub file-730 : File Record730
-file-730 = record { layout = layout-730; record_of = record-730; values_of = values-730; values-back = λ v. refl; record-back = λ r. refl }
+unfoldable pub file_730 : File Record730
+file_730 = record { layout = layout_730; record_of = record_730; values_of = values_730; values_back = λ v. refl; record_back = λ r. refl }
 
 -- a result as the record or the number of the refusal
-abbrev pub says-730 : Read730 → Reading Record730
-says-730 (Record r) = said r
-says-730 (Refused e) = refused (read-refusal e)
+abbrev pub says_730 : Read730 → Reading Record730
+says_730 (Record r) = said r
+says_730 (Refused e) = refused (read_refusal e)

@@ -1,10 +1,10 @@
 // File 730, 64 characters: amounts and units.
 ghost use Rattle.std.specs.Prelude.{◌≡◌, ◌+◌, ◌≤◌, length};
-ghost use Rattle.records.specs.Layout.{every, fixed-part, read_by, numbers, fits};
+ghost use Rattle.records.specs.Layout.{every, fixed_part, read_by, numbers, fits};
 ghost use Rattle.records.specs.File.{reading, writing, leaves};
-ghost use Rattle.records_730.specs.File730.{layout-730, values-730, record-730, file-730, says-730};
-ghost use Rattle.records.specs.Numbers.{write-number};
-ghost use Rattle.records.specs.Puts.{puts_first, puts-rest};
+ghost use Rattle.records_730.specs.File730.{layout_730, values_730, record_730, file_730, says_730};
+ghost use Rattle.records.specs.Numbers.{write_number};
+ghost use Rattle.records.specs.Puts.{puts_first, puts_rest};
 
 use decimals::put_text;
 use records::parts::{Field, has_room, is_text, number_at, put_digits};
@@ -68,7 +68,7 @@ const HIGHEST_CDHOEV: u64 = 999999999999;
 const HIGHEST_CDEENH: u32 = 999999;
 
 pub fn read_730(s: &[u8]) -> Read730
-    ensures { says-730 result ≡ reading file-730 s.now }
+    ensures { says_730 result ≡ reading file_730 s.now }
 {
     if s.len() != LENGTH_730 {
         return Read730::Refused(ReadRefusal::Length);
@@ -81,7 +81,7 @@ pub fn read_730(s: &[u8]) -> Read730
 
 fn fixed_730(s: &[u8]) -> bool
     requires { length s.now ≡ 64 }
-    ensures { result ≡ every fixed-part layout-730 0 s.now }
+    ensures { result ≡ every fixed_part layout_730 0 s.now }
 {
     if !is_text(s, BSTNUM, b"0730") {
         return false;
@@ -97,7 +97,7 @@ fn fixed_730(s: &[u8]) -> bool
 
 fn numbers_730(s: &[u8]) -> Read730
     requires { length s.now ≡ 64 }
-    ensures { says-730 result ≡ read_by record-730 (numbers layout-730 s.now) }
+    ensures { says_730 result ≡ read_by record_730 (numbers layout_730 s.now) }
 {
     let Field::Number(mutation) = number_at(s, MUTKOD, MUTKOD_WIDTH) else {
         return Read730::Refused(ReadRefusal::Digit);
@@ -127,7 +127,7 @@ fn numbers_730(s: &[u8]) -> Read730
 }
 
 pub fn write_730(buf: &mut [u8], at: usize, r: Record730) -> Written
-    ensures { (write-number result ≡ writing file-730 r at (length buf.old)) × (buf.new ≡ leaves file-730 r at buf.old) }
+    ensures { (write_number result ≡ writing file_730 r at (length buf.old)) × (buf.new ≡ leaves file_730 r at buf.old) }
 {
     let fits = fits_730(r);
     let room = has_room(buf.len(), at, LENGTH_730);
@@ -143,7 +143,7 @@ pub fn write_730(buf: &mut [u8], at: usize, r: Record730) -> Written
 }
 
 fn fits_730(r: Record730) -> bool
-    ensures { result ≡ fits layout-730 (values-730 r) }
+    ensures { result ≡ fits layout_730 (values_730 r) }
 {
     let mutation = r.mutation as u64;
     let srtcde = r.srtcde;
@@ -171,7 +171,7 @@ fn fits_730(r: Record730) -> bool
 // To the end of CODE.
 fn put_front(buf: &mut [u8], at: usize, r: Record730)
     requires { at + 64 ≤ length buf.old }
-    ensures { buf.new ≡ puts_first 5 layout-730 (values-730 r) buf.old at }
+    ensures { buf.new ≡ puts_first 5 layout_730 (values_730 r) buf.old at }
 {
     put_text(buf, at + BSTNUM, b"0730");
     put_digits(buf, at + MUTKOD, MUTKOD_WIDTH, r.mutation as u64);
@@ -183,7 +183,7 @@ fn put_front(buf: &mut [u8], at: usize, r: Record730)
 // From CDHOEV on.
 fn put_back(buf: &mut [u8], at: usize, r: Record730)
     requires { at + 64 ≤ length buf.old }
-    ensures { buf.new ≡ puts-rest 5 layout-730 (values-730 r) buf.old at }
+    ensures { buf.new ≡ puts_rest 5 layout_730 (values_730 r) buf.old at }
 {
     put_digits(buf, at + CDHOEV, CDHOEV_WIDTH, r.cdhoev);
     put_text(buf, at + TSEENH, b"0002");

@@ -12,95 +12,95 @@ use Rattle.guideline.specs.declared.setting.Setting.{Setting}
 use Rattle.guideline.specs.Ask.{run}
 use Rattle.guideline.specs.Rows.{keyed}
 use Rattle.guideline.specs.Table.{Table, Hits, None, One, Many, some, among, every}
-use Rattle.guideline.specs.Values.{intensive-care, no-reason, no-route}
+use Rattle.guideline.specs.Values.{intensive_care, no_reason, no_route}
 use Rattle.guideline.specs.Forms.{one, choose, refuse}
-use Rattle.guideline.specs.Steps.{of-care, of-reason, of-route, keep-care, keep-reason, keep-route, setting}
+use Rattle.guideline.specs.Steps.{of_care, of_reason, of_route, keep_care, keep_reason, keep_route, setting}
 use Rattle.tables.specs.Found.{found642}
 use Rattle.tables.specs.Tests.{test642}
 use Rattle.tables.specs.declared.t642.Test642.TheVariants.{Care, Reason, Route}
 use Rattle.selection.specs.Chosen.{chosen642}
-use Rattle.selection.specs.Kept.{in-all-care, for-whole-reason, for-Q-general, by-no-route, care-kept, reason_kept, route-kept, route-found, by-found}
+use Rattle.selection.specs.Kept.{in_all_care, for_whole_reason, for_Q_general, by_no_route, care_kept, reason_kept, route_kept, route_found, by_found}
 
 module _ (t : Table Row642) where
-  abbrev of-care-group : Setting → Table Row642
-  of-care-group s = among (of-care s.care) t
+  abbrev of_care_group : Setting → Table Row642
+  of_care_group s = among (of_care s.care) t
 
-  abbrev of-care-and-reason : Setting → Table Row642
-  of-care-and-reason s = among (of-reason s.reason s.icpcto) (of-care-group s)
+  abbrev of_care_and_reason : Setting → Table Row642
+  of_care_and_reason s = among (of_reason s.reason s.icpcto) (of_care_group s)
 
-  care-rows : (s : Setting) → keep-care s.care t ≡ of-care-group (care-kept t s)
-  unfolding keep-care care-kept
-  care-rows s = go (eqb s.care intensive-care) (some (t (test642 (Care s))))
+  care_rows : (s : Setting) → keep_care s.care t ≡ of_care_group (care_kept t s)
+  unfolding keep_care care_kept
+  care_rows s = go (eqb s.care intensive_care) (some (t (test642 (Care s))))
     where
-      go : (b c : Bool) → cond b (cond c (of-care-group s) (of-care-group (in-all-care s))) (of-care-group s) ≡ of-care-group (cond b (cond c s (in-all-care s)) s)
+      go : (b c : Bool) → cond b (cond c (of_care_group s) (of_care_group (in_all_care s))) (of_care_group s) ≡ of_care_group (cond b (cond c s (in_all_care s)) s)
       go true true = refl
       go true false = refl
       go false c = refl
 
-  reason-rows : (s : Setting) → keep-reason s.reason s.icpcto (of-care-group s) ≡ of-care-and-reason (reason_kept t s)
-  unfolding keep-reason reason_kept
-  reason-rows s = go (eqb s.reason no-reason) (some (t (test642 (Reason s)))) (some (t (test642 (Reason (for-whole-reason s)))))
+  reason_rows : (s : Setting) → keep_reason s.reason s.icpcto (of_care_group s) ≡ of_care_and_reason (reason_kept t s)
+  unfolding keep_reason reason_kept
+  reason_rows s = go (eqb s.reason no_reason) (some (t (test642 (Reason s)))) (some (t (test642 (Reason (for_whole_reason s)))))
     where
       R : Setting → Table Row642
-      R = of-care-and-reason
+      R = of_care_and_reason
 
-      go : (a b c : Bool) → cond a (R (for-Q-general s)) (cond b (R s) (cond c (R (for-whole-reason s)) (R (for-Q-general s)))) ≡ R (cond a (for-Q-general s) (cond b s (cond c (for-whole-reason s) (for-Q-general s))))
+      go : (a b c : Bool) → cond a (R (for_Q_general s)) (cond b (R s) (cond c (R (for_whole_reason s)) (R (for_Q_general s)))) ≡ R (cond a (for_Q_general s) (cond b s (cond c (for_whole_reason s) (for_Q_general s))))
       go true b c = refl
       go false true c = refl
       go false false true = refl
       go false false false = refl
 
-  route-rows : (s : Setting) → keep-route s.route (of-care-and-reason s) every ≡ t (test642 (Route (route-kept t s)))
-  unfolding keep-route route-kept
-  route-rows s = go (some (t (test642 (Route s))))
+  route_rows : (s : Setting) → keep_route s.route (of_care_and_reason s) every ≡ t (test642 (Route (route_kept t s)))
+  unfolding keep_route route_kept
+  route_rows s = go (some (t (test642 (Route s))))
     where
-      go : (b : Bool) → cond b (among (of-route s.route) (of-care-and-reason s)) (among (of-route no-route) (of-care-and-reason s)) every ≡ t (test642 (Route (cond b s (by-no-route s))))
+      go : (b : Bool) → cond b (among (of_route s.route) (of_care_and_reason s)) (among (of_route no_route) (of_care_and_reason s)) every ≡ t (test642 (Route (cond b s (by_no_route s))))
       go true = refl
       go false = refl
 
   -- the care group and the reason leave what comes after them as it was entered
-  care-rest : (s : Setting) → ((care-kept t s).reason ≡ s.reason) × ((care-kept t s).icpcto ≡ s.icpcto) × ((care-kept t s).route ≡ s.route)
-  unfolding care-kept
-  care-rest s = go (eqb s.care intensive-care) (some (t (test642 (Care s))))
+  care_rest : (s : Setting) → ((care_kept t s).reason ≡ s.reason) × ((care_kept t s).icpcto ≡ s.icpcto) × ((care_kept t s).route ≡ s.route)
+  unfolding care_kept
+  care_rest s = go (eqb s.care intensive_care) (some (t (test642 (Care s))))
     where
-      go : (b c : Bool) → ((cond b (cond c s (in-all-care s)) s).reason ≡ s.reason) × ((cond b (cond c s (in-all-care s)) s).icpcto ≡ s.icpcto) × ((cond b (cond c s (in-all-care s)) s).route ≡ s.route)
+      go : (b c : Bool) → ((cond b (cond c s (in_all_care s)) s).reason ≡ s.reason) × ((cond b (cond c s (in_all_care s)) s).icpcto ≡ s.icpcto) × ((cond b (cond c s (in_all_care s)) s).route ≡ s.route)
       go true true = (refl, refl, refl)
       go true false = (refl, refl, refl)
       go false c = (refl, refl, refl)
 
-  reason-rest : (s : Setting) → (reason_kept t s).route ≡ s.route
+  reason_rest : (s : Setting) → (reason_kept t s).route ≡ s.route
   unfolding reason_kept
-  reason-rest s = go (eqb s.reason no-reason) (some (t (test642 (Reason s)))) (some (t (test642 (Reason (for-whole-reason s)))))
+  reason_rest s = go (eqb s.reason no_reason) (some (t (test642 (Reason s)))) (some (t (test642 (Reason (for_whole_reason s)))))
     where
-      go : (a b c : Bool) → (cond a (for-Q-general s) (cond b s (cond c (for-whole-reason s) (for-Q-general s)))).route ≡ s.route
+      go : (a b c : Bool) → (cond a (for_Q_general s) (cond b s (cond c (for_whole_reason s) (for_Q_general s)))).route ≡ s.route
       go true b c = refl
       go false true c = refl
       go false false true = refl
       go false false false = refl
 
-  kept-rows : (s : Setting) → keep-route s.route (keep-reason s.reason s.icpcto (keep-care s.care t)) every ≡ t (test642 (Route (route-kept t (reason_kept t (care-kept t s)))))
-  kept-rows s =
-      ap (λ (x : Table Row642). keep-route s.route (keep-reason s.reason s.icpcto x) every) (care-rows s)
-      ∙ ap (λ (i : ℕ). keep-route s.route (keep-reason i s.icpcto (of-care-group c)) every) (sym (care-rest s).0)
-      ∙ ap (λ (k : ℕ). keep-route s.route (keep-reason c.reason k (of-care-group c)) every) (sym (care-rest s).1)
-      ∙ ap (λ (x : Table Row642). keep-route s.route x every) (reason-rows c)
-      ∙ ap (λ (w : ℕ). keep-route w (of-care-and-reason r) every) (sym (care-rest s).2 ∙ sym (reason-rest c))
-      ∙ route-rows r
+  kept_rows : (s : Setting) → keep_route s.route (keep_reason s.reason s.icpcto (keep_care s.care t)) every ≡ t (test642 (Route (route_kept t (reason_kept t (care_kept t s)))))
+  kept_rows s =
+      ap (λ (x : Table Row642). keep_route s.route (keep_reason s.reason s.icpcto x) every) (care_rows s)
+      ∙ ap (λ (i : ℕ). keep_route s.route (keep_reason i s.icpcto (of_care_group c)) every) (sym (care_rest s).0)
+      ∙ ap (λ (k : ℕ). keep_route s.route (keep_reason c.reason k (of_care_group c)) every) (sym (care_rest s).1)
+      ∙ ap (λ (x : Table Row642). keep_route s.route x every) (reason_rows c)
+      ∙ ap (λ (w : ℕ). keep_route w (of_care_and_reason r) every) (sym (care_rest s).2 ∙ sym (reason_rest c))
+      ∙ route_rows r
     where
       c : Setting
-      c = care-kept t s
+      c = care_kept t s
 
       r : Setting
       r = reason_kept t c
 
 -- "At the end none 113, several 123."
-found-setting : (d : Datum → Value) (h : Hits Row642) → by-found (found642 h) ≡ chosen642 (run d (one h NoSetting SettingSeveral))
+found_setting : (d : Datum → Value) (h : Hits Row642) → by_found (found642 h) ≡ chosen642 (run d (one h NoSetting SettingSeveral))
 unfolding one choose refuse
-found-setting d None = refl
-found-setting d (One r) = refl
-found-setting d (Many n) = refl
+found_setting d None = refl
+found_setting d (One r) = refl
+found_setting d (Many n) = refl
 
-pub setting_kept : (d : Datum → Value) (t : Table Row642) (s : Setting) (basis : ℕ) → by-found (route-found (among (keyed T642 basis) t) (reason_kept (among (keyed T642 basis) t) (care-kept (among (keyed T642 basis) t) s))) ≡ chosen642 (run d (setting t s basis))
+pub setting_kept : (d : Datum → Value) (t : Table Row642) (s : Setting) (basis : ℕ) → by_found (route_found (among (keyed T642 basis) t) (reason_kept (among (keyed T642 basis) t) (care_kept (among (keyed T642 basis) t) s))) ≡ chosen642 (run d (setting t s basis))
 unfolding setting
 setting_kept d t s basis =
-    found-setting d _ ∙ ap (λ (h : Hits Row642). chosen642 (run d (one h NoSetting SettingSeveral))) (sym (kept-rows (among (keyed T642 basis) t) s))
+    found_setting d _ ∙ ap (λ (h : Hits Row642). chosen642 (run d (one h NoSetting SettingSeveral))) (sym (kept_rows (among (keyed T642 basis) t) s))

@@ -1,6 +1,6 @@
 // What a step answers: the row that it chose, or its refusal. The step above takes that apart.
 ghost use Rattle.std.specs.Prelude.{◌≡◌};
-ghost use Rattle.selection.specs.Chosen.{refusal-age, refusal640, refusal641, refusal642, refusal649};
+ghost use Rattle.selection.specs.Chosen.{refusal_age, refusal640, refusal641, refusal642, refusal649};
 
 use guideline::refusals::Refusal;
 use guideline::rows::{Row640, Row641, Row642, Row649};
@@ -30,7 +30,7 @@ pub enum ChosenAge {
 
 impl ChosenAge {
     pub fn refusal(self) -> Refusal
-        ensures { result ≡ refusal-age self }
+        ensures { result ≡ refusal_age self }
     {
         match self {
             ChosenAge::Months(_) => Refusal::none(),

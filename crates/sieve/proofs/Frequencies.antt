@@ -9,42 +9,42 @@ use Rattle.guideline.specs.Forms.{when}
 use Rattle.guideline.specs.Steps.{signal}
 use Rattle.filter.specs.declared.Frequency.{Frequency}
 use Rattle.filter.specs.declared.Filter.TheVariants.{Exact, Twin, UnitOrTwin, Count}
-use Rattle.filter.specs.Filters.{filter643, frequency-of}
-use Rattle.filter.proofs.Frequencies.{unit-filter, count-filter}
-use Rattle.sieve.specs.Matched.{frequency-kept}
+use Rattle.filter.specs.Filters.{filter643, frequency_of}
+use Rattle.filter.proofs.Frequencies.{unit_filter, count_filter}
+use Rattle.sieve.specs.Matched.{frequency_kept}
 
 -- which of step 9's two filters the rows are kept by
 module _ (f : Frequency) (t : Table Row643) where
-  pub kept-exact : some (t (filter643 (Exact f))) ≡ true → Exact f ≡ frequency-kept f t
-  kept-exact h = rw h
+  pub kept_exact : some (t (filter643 (Exact f))) ≡ true → Exact f ≡ frequency_kept f t
+  kept_exact h = rw h
 
-  pub kept-twin : some (t (filter643 (Exact f))) ≡ false → Twin f ≡ frequency-kept f t
-  kept-twin h = rw h
+  pub kept_twin : some (t (filter643 (Exact f))) ≡ false → Twin f ≡ frequency_kept f t
+  kept_twin h = rw h
 
 -- whether there are rows with the entered frequency, or with a part of it
 module _ (p : Prescription) (t : Table Row643) where
-  abbrev pub has-exact : Bool
-  has-exact = some (t (filter643 (Exact (frequency-of p))))
+  abbrev pub has_exact : Bool
+  has_exact = some (t (filter643 (Exact (frequency_of p))))
 
-  abbrev pub has-twin : Bool
-  has-twin = some (t (filter643 (Twin (frequency-of p))))
+  abbrev pub has_twin : Bool
+  has_twin = some (t (filter643 (Twin (frequency_of p))))
 
-  abbrev pub has-unit : Bool
-  has-unit = some (t (filter643 (UnitOrTwin (frequency-of p))))
+  abbrev pub has_unit : Bool
+  has_unit = some (t (filter643 (UnitOrTwin (frequency_of p))))
 
-  abbrev pub has-count : Bool
-  has-count = some (t (filter643 (Count (frequency-of p))))
+  abbrev pub has_count : Bool
+  has_count = some (t (filter643 (Count (frequency_of p))))
 
-  pub count-differs : has-unit ≡ true → Signal.OnlyCount ≡ signal p t
+  pub count_differs : has_unit ≡ true → Signal.OnlyCount ≡ signal p t
   unfolding signal when
-  count-differs h = rw (ap (λ (q : Row643 → Bool). some (t q)) (unit-filter p) ∙ h)
+  count_differs h = rw (ap (λ (q : Row643 → Bool). some (t q)) (unit_filter p) ∙ h)
 
-  pub unit-differs : has-unit ≡ false → has-count ≡ true → Signal.OnlyUnit ≡ signal p t
+  pub unit_differs : has_unit ≡ false → has_count ≡ true → Signal.OnlyUnit ≡ signal p t
   unfolding signal when
-  unit-differs h k =
-      rw (ap (λ (q : Row643 → Bool). some (t q)) (unit-filter p) ∙ h, ap (λ (q : Row643 → Bool). some (t q)) (count-filter p) ∙ k)
+  unit_differs h k =
+      rw (ap (λ (q : Row643 → Bool). some (t q)) (unit_filter p) ∙ h, ap (λ (q : Row643 → Bool). some (t q)) (count_filter p) ∙ k)
 
-  pub both-differ : has-unit ≡ false → has-count ≡ false → Signal.Both ≡ signal p t
+  pub both_differ : has_unit ≡ false → has_count ≡ false → Signal.Both ≡ signal p t
   unfolding signal when
-  both-differ h k =
-      rw (ap (λ (q : Row643 → Bool). some (t q)) (unit-filter p) ∙ h, ap (λ (q : Row643 → Bool). some (t q)) (count-filter p) ∙ k)
+  both_differ h k =
+      rw (ap (λ (q : Row643 → Bool). some (t q)) (unit_filter p) ∙ h, ap (λ (q : Row643 → Bool). some (t q)) (count_filter p) ∙ k)

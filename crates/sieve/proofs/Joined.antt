@@ -12,7 +12,7 @@ use Rattle.filter.specs.declared.Filter.{Filter}
 use Rattle.filter.specs.declared.Filter.TheVariants.{Every, Age, FitsMeasure}
 use Rattle.filter.specs.Filters.{filter643}
 use Rattle.sieve.specs.declared.settled.Settled.{Settled}
-use Rattle.sieve.specs.Settled.{and-age, and-frequency, and-weight, and-surface, and-measure, own_value, other-value, age-filter, measure-filter, settled643}
+use Rattle.sieve.specs.Settled.{and_age, and_frequency, and_weight, and_surface, and_measure, own_value, other_value, age_filter, measure_filter, settled643}
 
 -- the test that was not there yet, at its place among the five
 second : (a q b : Bool) → (a && (q && b)) ≡ ((a && b) && q)
@@ -38,38 +38,38 @@ module _ (s : Settled) (r : Row643) where
   own = keyed T643 s.category r
 
   abbrev aged : Bool
-  aged = filter643 (age-filter s.age) r
+  aged = filter643 (age_filter s.age) r
 
-  abbrev as-often : Bool
-  as-often = filter643 s.frequency r
+  abbrev as_often : Bool
+  as_often = filter643 s.frequency r
 
   abbrev weighed : Bool
-  weighed = filter643 (measure-filter Weight s.weight) r
+  weighed = filter643 (measure_filter Weight s.weight) r
 
-  abbrev of-surface : Bool
-  of-surface = filter643 (measure-filter Surface s.surface) r
+  abbrev of_surface : Bool
+  of_surface = filter643 (measure_filter Surface s.surface) r
 
-  pub age-joins : (x : ℕ) → s.age ≡ Blank → settled643 (and-age s x) r ≡ (settled643 s r && filter643 (Age x) r)
+  pub age_joins : (x : ℕ) → s.age ≡ Blank → settled643 (and_age s x) r ≡ (settled643 s r && filter643 (Age x) r)
   unfolding settled643
-  age-joins x e = rw e (second own (filter643 (Age x) r) (as-often && (weighed && of-surface)))
+  age_joins x e = rw e (second own (filter643 (Age x) r) (as_often && (weighed && of_surface)))
 
-  pub frequency-joins : (q : Filter) → s.frequency ≡ Every → settled643 (and-frequency s q) r ≡ (settled643 s r && filter643 q r)
+  pub frequency_joins : (q : Filter) → s.frequency ≡ Every → settled643 (and_frequency s q) r ≡ (settled643 s r && filter643 q r)
   unfolding settled643
-  frequency-joins q e = rw e (third own aged (filter643 q r) (weighed && of-surface))
+  frequency_joins q e = rw e (third own aged (filter643 q r) (weighed && of_surface))
 
-  pub weight-joins : (x : ℕ) → s.weight ≡ Blank → settled643 (and-weight s x) r ≡ (settled643 s r && filter643 (FitsMeasure Weight x) r)
+  pub weight_joins : (x : ℕ) → s.weight ≡ Blank → settled643 (and_weight s x) r ≡ (settled643 s r && filter643 (FitsMeasure Weight x) r)
   unfolding settled643
-  weight-joins x e = rw e (fourth own aged as-often (filter643 (FitsMeasure Weight x) r) of-surface)
+  weight_joins x e = rw e (fourth own aged as_often (filter643 (FitsMeasure Weight x) r) of_surface)
 
-  pub surface-joins : (x : ℕ) → s.surface ≡ Blank → settled643 (and-surface s x) r ≡ (settled643 s r && filter643 (FitsMeasure Surface x) r)
+  pub surface_joins : (x : ℕ) → s.surface ≡ Blank → settled643 (and_surface s x) r ≡ (settled643 s r && filter643 (FitsMeasure Surface x) r)
   unfolding settled643
-  surface-joins x e = rw e (fifth own aged as-often weighed (filter643 (FitsMeasure Surface x) r))
+  surface_joins x e = rw e (fifth own aged as_often weighed (filter643 (FitsMeasure Surface x) r))
 
 -- either measure
-pub measure-joins : (m : Measure) (s : Settled) (x : ℕ) → own_value m s ≡ Blank → (r : Row643) → settled643 (and-measure s m x) r ≡ (settled643 s r && filter643 (FitsMeasure m x) r)
-measure-joins Weight s x e r = weight-joins s r x e
-measure-joins Surface s x e r = surface-joins s r x e
+pub measure_joins : (m : Measure) (s : Settled) (x : ℕ) → own_value m s ≡ Blank → (r : Row643) → settled643 (and_measure s m x) r ≡ (settled643 s r && filter643 (FitsMeasure m x) r)
+measure_joins Weight s x e r = weight_joins s r x e
+measure_joins Surface s x e r = surface_joins s r x e
 
-pub other-stays : (m : Measure) (s : Settled) (x : ℕ) → other-value m (and-measure s m x) ≡ other-value m s
-other-stays Weight s x = refl
-other-stays Surface s x = refl
+pub other_stays : (m : Measure) (s : Settled) (x : ℕ) → other_value m (and_measure s m x) ≡ other_value m s
+other_stays Weight s x = refl
+other_stays Surface s x = refl

@@ -11,59 +11,59 @@ use Rattle.guideline.specs.declared.view.View.{View}
 use Rattle.guideline.specs.Table.{some, among, every}
 use Rattle.guideline.specs.Rows.{keyed}
 use Rattle.cells.specs.declared.Tally.{Tally}
-use Rattle.cells.specs.Lents.{shown, row_at, tally-of}
+use Rattle.cells.specs.Lents.{shown, row_at, tally_of}
 use Rattle.cells.specs.Tally.{told}
 use Rattle.cells.specs.Views.{narrowed}
-use Rattle.cells.proofs.Lents.{rows_told, rows-found, rows-missed}
-use Rattle.cells.proofs.Tallied.{tallying-none, tallying-skip}
-use Rattle.keys.proofs.Answers.{narrowed-answers}
+use Rattle.cells.proofs.Lents.{rows_told, rows_found, rows_missed}
+use Rattle.cells.proofs.Tallied.{tallying_none, tallying_skip}
+use Rattle.keys.proofs.Answers.{narrowed_answers}
 use Rattle.filter.specs.declared.Filter.{Filter}
 use Rattle.filter.specs.Filters.{filter643}
 use Rattle.sieve.specs.declared.settled.Settled.{Settled}
-use Rattle.sieve.specs.Settled.{of-category, settled643, kept}
+use Rattle.sieve.specs.Settled.{of_category, settled643, kept}
 use Rattle.sieve.specs.Places.{passing, Missed, First}
 
 -- is there a row with a property more?
 module _ (l : List ℕ) (v : View) (s : Settled) (p : Row643 → Bool) where
-  pub some-missed : Missed (passing l v s p) v.rows → some (kept l v s p) ≡ false
+  pub some_missed : Missed (passing l v s p) v.rows → some (kept l v s p) ≡ false
   unfolding kept
-  some-missed m =
-      rows-missed T643 l v (λ r. settled643 s r && p r) (tallying-skip (passing l v s p) v.rows (tallying-none (passing l v s p) v.rows) (omega arith) (omega arith) (λ i above. m i)) (omega arith)
+  some_missed m =
+      rows_missed T643 l v (λ r. settled643 s r && p r) (tallying_skip (passing l v s p) v.rows (tallying_none (passing l v s p) v.rows) (omega arith) (omega arith) (λ i above. m i)) (omega arith)
 
-  pub some-found : (i : ℕ) → i < v.rows → passing l v s p i ≡ true → some (kept l v s p) ≡ true
+  pub some_found : (i : ℕ) → i < v.rows → passing l v s p i ≡ true → some (kept l v s p) ≡ true
   unfolding kept
-  some-found = rows-found T643 l v (λ r. settled643 s r && p r)
+  some_found = rows_found T643 l v (λ r. settled643 s r && p r)
 
   module _ {r : ℕ} (k : First (passing l v s p) v.rows r) where
-    pub first-none : r ≡ v.rows → some (kept l v s p) ≡ false
-    first-none e = some-missed (λ i below. k.1 i (omega arith))
+    pub first_none : r ≡ v.rows → some (kept l v s p) ≡ false
+    first_none e = some_missed (λ i below. k.1 i (omega arith))
 
     pub first_some : (r ≡ v.rows → ⊥) → some (kept l v s p) ≡ true
-    first_some z = some-found r (omega arith) (k.2 (omega arith))
+    first_some z = some_found r (omega arith) (k.2 (omega arith))
 
 -- the rows that are kept by a filter more are those of the rows before that pass it
 module _ (l : List ℕ) (v : View) (s more : Settled) (q : Filter) (joins : (r : Row643) → settled643 more r ≡ (settled643 s r && filter643 q r)) where
-  pub joined-kept : kept l v more ≡ among (filter643 q) (kept l v s)
+  pub joined_kept : kept l v more ≡ among (filter643 q) (kept l v s)
   unfolding kept
-  joined-kept =
+  joined_kept =
       fun_ext (λ (p : Row643 → Bool). ap (shown T643 l v) (fun_ext (λ r. ap (λ (b : Bool). b && p r) (joins r) ∙ and_assoc (settled643 s r) (filter643 q r) (p r))))
 
   -- also where they are seen from the first row on that passes it
   from_first : {i : ℕ} → First (passing l v s (filter643 q)) v.rows i → kept l (narrowed v i v.rows) more ≡ kept l v more
   unfolding kept
   from_first {i} k =
-      fun_ext (λ (p : Row643 → Bool). narrowed-answers T643 l v i v.rows (λ r. settled643 more r && p r) k.0 (omega arith) (λ j below. ap (λ (b : Bool). b && p (row_at T643 l v j)) (joins (row_at T643 l v j) ∙ k.1 j below)) (λ j above below. absurd (let z : ⊥ = omega arith in z)))
+      fun_ext (λ (p : Row643 → Bool). narrowed_answers T643 l v i v.rows (λ r. settled643 more r && p r) k.0 (omega arith) (λ j below. ap (λ (b : Bool). b && p (row_at T643 l v j)) (joins (row_at T643 l v j) ∙ k.1 j below)) (λ j above below. absurd (let z : ⊥ = omega arith in z)))
 
-  pub narrowed-kept : {i : ℕ} {u : View} {w : Settled} → First (passing l v s (filter643 q)) v.rows i → u ≡ narrowed v i v.rows → w ≡ more → kept l u w ≡ among (filter643 q) (kept l v s)
-  narrowed-kept k cut settled = ap₂ (kept l) cut settled ∙ from_first k ∙ joined-kept
+  pub narrowed_kept : {i : ℕ} {u : View} {w : Settled} → First (passing l v s (filter643 q)) v.rows i → u ≡ narrowed v i v.rows → w ≡ more → kept l u w ≡ among (filter643 q) (kept l v s)
+  narrowed_kept k cut settled = ap₂ (kept l) cut settled ∙ from_first k ∙ joined_kept
 
 -- the category only
-pub kept-category : (l : List ℕ) (v : View) (category : ℕ) → kept l v (of-category category) ≡ among (keyed T643 category) (shown T643 l v)
+pub kept_category : (l : List ℕ) (v : View) (category : ℕ) → kept l v (of_category category) ≡ among (keyed T643 category) (shown T643 l v)
 unfolding kept settled643
-kept-category l v category =
+kept_category l v category =
     fun_ext (λ (p : Row643 → Bool). ap (shown T643 l v) (fun_ext (λ r. ap (λ (b : Bool). b && p r) (and-true (keyed T643 category r)))))
 
 -- how many they are
-pub kept-told : (l : List ℕ) (v : View) (s : Settled) {t : Tally} → t ≡ tally-of T643 l v (settled643 s) → kept l v s every ≡ told t.count (row_at T643 l v t.last)
+pub kept_told : (l : List ℕ) (v : View) (s : Settled) {t : Tally} → t ≡ tally_of T643 l v (settled643 s) → kept l v s every ≡ told t.count (row_at T643 l v t.last)
 unfolding kept
-kept-told l v s e = ap (shown T643 l v) (fun_ext (λ r. and-true (settled643 s r))) ∙ rows_told T643 l v (settled643 s) e
+kept_told l v s e = ap (shown T643 l v) (fun_ext (λ r. and-true (settled643 s r))) ∙ rows_told T643 l v (settled643 s) e

@@ -14,12 +14,12 @@ use Rattle.sieve.specs.Settled.{kept}
 use Rattle.sieve.specs.Places.{passing, First}
 
 -- "Same count and unit on one row. If none, same count and the twin unit."
-abbrev pub frequency-kept : Frequency → Table Row643 → Filter
-frequency-kept f t = cond (some (t (filter643 (Exact f)))) (Exact f) (Twin f)
+abbrev pub frequency_kept : Frequency → Table Row643 → Filter
+frequency_kept f t = cond (some (t (filter643 (Exact f)))) (Exact f) (Twin f)
 
 -- where the first row that has the frequency stands, and by which filter; or that no row has it
 abbrev pub Matched : List ℕ → View → Settled → Frequency → Place → Type 0
 Matched l v s f (At i q) =
-    (q ≡ frequency-kept f (kept l v s)) × (i < v.rows) × First (passing l v s (filter643 q)) v.rows i
+    (q ≡ frequency_kept f (kept l v s)) × (i < v.rows) × First (passing l v s (filter643 q)) v.rows i
 Matched l v s f Nowhere =
     (some (kept l v s (filter643 (Exact f))) ≡ false) × (some (kept l v s (filter643 (Twin f))) ≡ false)

@@ -16,54 +16,54 @@ use Rattle.filter.specs.Filters.{filter643}
 use Rattle.sieve.specs.declared.settled.Settled.{Settled}
 
 -- the category only; and then one filter more
-abbrev pub of-category : ℕ → Settled
-of-category category = record { category = category; age = Blank; frequency = Every; weight = Blank; surface = Blank }
+abbrev pub of_category : ℕ → Settled
+of_category category = record { category = category; age = Blank; frequency = Every; weight = Blank; surface = Blank }
 
-abbrev pub and-age : Settled → ℕ → Settled
-and-age s months =
+abbrev pub and_age : Settled → ℕ → Settled
+and_age s months =
     record { category = s.category; age = Given months; frequency = s.frequency; weight = s.weight; surface = s.surface }
 
-abbrev pub and-frequency : Settled → Filter → Settled
-and-frequency s f =
+abbrev pub and_frequency : Settled → Filter → Settled
+and_frequency s f =
     record { category = s.category; age = s.age; frequency = f; weight = s.weight; surface = s.surface }
 
-abbrev pub and-weight : Settled → ℕ → Settled
-and-weight s x =
+abbrev pub and_weight : Settled → ℕ → Settled
+and_weight s x =
     record { category = s.category; age = s.age; frequency = s.frequency; weight = Given x; surface = s.surface }
 
-abbrev pub and-surface : Settled → ℕ → Settled
-and-surface s x =
+abbrev pub and_surface : Settled → ℕ → Settled
+and_surface s x =
     record { category = s.category; age = s.age; frequency = s.frequency; weight = s.weight; surface = Given x }
 
-abbrev pub and-measure : Settled → Measure → ℕ → Settled
-and-measure s Weight x = and-weight s x
-and-measure s Surface x = and-surface s x
+abbrev pub and_measure : Settled → Measure → ℕ → Settled
+and_measure s Weight x = and_weight s x
+and_measure s Surface x = and_surface s x
 
 -- what is settled of the measure, and of the other
 abbrev pub own_value : Measure → Settled → Value
 own_value Weight s = s.weight
 own_value Surface s = s.surface
 
-abbrev pub other-value : Measure → Settled → Value
-other-value Weight s = s.surface
-other-value Surface s = s.weight
+abbrev pub other_value : Measure → Settled → Value
+other_value Weight s = s.surface
+other_value Surface s = s.weight
 
 -- the filter that a value stands for: nothing is settled yet where it is blank
-abbrev pub age-filter : Value → Filter
-age-filter Blank = Every
-age-filter (Given months) = Age months
+abbrev pub age_filter : Value → Filter
+age_filter Blank = Every
+age_filter (Given months) = Age months
 
-abbrev pub measure-filter : Measure → Value → Filter
-measure-filter m Blank = Every
-measure-filter m (Given x) = FitsMeasure m x
+abbrev pub measure_filter : Measure → Value → Filter
+measure_filter m Blank = Every
+measure_filter m (Given x) = FitsMeasure m x
 
 -- a row passes all that is settled
 unfoldable pub settled643 : Settled → Row643 → Bool
 settled643 s r =
     keyed T643 s.category r
-    && (filter643 (age-filter s.age) r
+    && (filter643 (age_filter s.age) r
     && (filter643 s.frequency r
-    && (filter643 (measure-filter Weight s.weight) r && filter643 (measure-filter Surface s.surface) r)))
+    && (filter643 (measure_filter Weight s.weight) r && filter643 (measure_filter Surface s.surface) r)))
 
 -- the rows of a view that pass
 unfoldable pub kept : List ℕ → View → Settled → Table Row643

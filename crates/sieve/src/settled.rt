@@ -2,7 +2,7 @@
 // narrowed description back. No row is remembered: each filter goes over the rows of the category again.
 ghost use Rattle.std.specs.Prelude.{◌≡◌, ◌&&◌};
 ghost use Rattle.filter.specs.Filters.{filter643};
-ghost use Rattle.sieve.specs.Settled.{of-category, and-age, and-frequency, and-weight, and-surface, and-measure, age-filter, measure-filter, settled643};
+ghost use Rattle.sieve.specs.Settled.{of_category, and_age, and_frequency, and_weight, and_surface, and_measure, age_filter, measure_filter, settled643};
 
 use filter::{Filter, Measure};
 use guideline::entries::Value;
@@ -20,7 +20,7 @@ pub struct Settled {
 
 // All rows pass where nothing is settled yet.
 fn fits_age(r: Row643, age: Value) -> bool
-    ensures { result ≡ filter643 (age-filter age) r }
+    ensures { result ≡ filter643 (age_filter age) r }
 {
     match age {
         Value::Blank => true,
@@ -29,7 +29,7 @@ fn fits_age(r: Row643, age: Value) -> bool
 }
 
 fn fits_measure(r: Row643, m: Measure, value: Value) -> bool
-    ensures { result ≡ filter643 (measure-filter m value) r }
+    ensures { result ≡ filter643 (measure_filter m value) r }
 {
     match value {
         Value::Blank => true,
@@ -40,7 +40,7 @@ fn fits_measure(r: Row643, m: Measure, value: Value) -> bool
 impl Settled {
     // Step 7. The rows of a category.
     pub fn of_category(category: u32) -> Settled
-        ensures { result ≡ of-category category }
+        ensures { result ≡ of_category category }
     {
         Settled {
             category,
@@ -53,7 +53,7 @@ impl Settled {
 
     // Step 8. The rows that fit the age (P1).
     pub fn by_age(self, months: u32) -> Settled
-        ensures { result ≡ and-age self months }
+        ensures { result ≡ and_age self months }
     {
         let frequency = self.frequency;
         let weight = self.weight;
@@ -69,7 +69,7 @@ impl Settled {
 
     // Step 9. "Same count and unit on one row. If none, same count and the twin unit." Or P4's rows per day.
     pub fn by_frequency(self, frequency: Filter) -> Settled
-        ensures { result ≡ and-frequency self frequency }
+        ensures { result ≡ and_frequency self frequency }
     {
         let age = self.age;
         let weight = self.weight;
@@ -85,7 +85,7 @@ impl Settled {
 
     // Step 10. The rows that fit the measure (P1).
     pub fn by_weight(self, x: u32) -> Settled
-        ensures { result ≡ and-weight self x }
+        ensures { result ≡ and_weight self x }
     {
         let age = self.age;
         let frequency = self.frequency;
@@ -100,7 +100,7 @@ impl Settled {
     }
 
     pub fn by_surface(self, x: u32) -> Settled
-        ensures { result ≡ and-surface self x }
+        ensures { result ≡ and_surface self x }
     {
         let age = self.age;
         let frequency = self.frequency;
@@ -116,7 +116,7 @@ impl Settled {
 
     // Either of the two.
     pub fn by_measure(self, m: Measure, x: u32) -> Settled
-        ensures { result ≡ and-measure self m x }
+        ensures { result ≡ and_measure self m x }
     {
         match m {
             Measure::Weight => self.by_weight(x),

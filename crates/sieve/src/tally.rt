@@ -2,7 +2,7 @@
 ghost use Rattle.std.specs.Prelude.{◌≡◌, length};
 ghost use Rattle.guideline.specs.declared.rows.TableName.TheVariants.{T643};
 ghost use Rattle.guideline.specs.Rows.{width};
-ghost use Rattle.cells.specs.Lents.{tally-of};
+ghost use Rattle.cells.specs.Lents.{tally_of};
 ghost use Rattle.cells.specs.Views.{Fits};
 ghost use Rattle.sieve.specs.Settled.{settled643};
 
@@ -14,7 +14,7 @@ use keys::next::next;
 impl Settled {
     pub fn tally(self, t: &[u8], v: View) -> Tally
         requires { Fits (width T643) v (length t.now) }
-        ensures { result ≡ tally-of T643 t.now v (settled643 self) }
+        ensures { result ≡ tally_of T643 t.now v (settled643 self) }
     {
         let rows = v.rows;
         let category = self.category;

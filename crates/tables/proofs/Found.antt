@@ -21,8 +21,8 @@ hits640 Nothing640 = None
 hits640 (One640 r) = One r
 hits640 (Many640 n) = Many n
 
-pub found-640 : (x : Hits Row640) {c k : Found640} → c ≡ found640 x → c ≡ k → x ≡ hits640 k
-found-640 = told found640 hits640 back
+pub found_640 : (x : Hits Row640) {c k : Found640} → c ≡ found640 x → c ≡ k → x ≡ hits640 k
+found_640 = told found640 hits640 back
   where
     back : (x : Hits Row640) → x ≡ hits640 (found640 x)
     back None = refl
@@ -34,8 +34,8 @@ hits641 Nothing641 = None
 hits641 (One641 r) = One r
 hits641 (Many641 n) = Many n
 
-pub found-641 : (x : Hits Row641) {c k : Found641} → c ≡ found641 x → c ≡ k → x ≡ hits641 k
-found-641 = told found641 hits641 back
+pub found_641 : (x : Hits Row641) {c k : Found641} → c ≡ found641 x → c ≡ k → x ≡ hits641 k
+found_641 = told found641 hits641 back
   where
     back : (x : Hits Row641) → x ≡ hits641 (found641 x)
     back None = refl
@@ -47,8 +47,8 @@ hits642 Nothing642 = None
 hits642 (One642 r) = One r
 hits642 (Many642 n) = Many n
 
-pub found-642 : (x : Hits Row642) {c k : Found642} → c ≡ found642 x → c ≡ k → x ≡ hits642 k
-found-642 = told found642 hits642 back
+pub found_642 : (x : Hits Row642) {c k : Found642} → c ≡ found642 x → c ≡ k → x ≡ hits642 k
+found_642 = told found642 hits642 back
   where
     back : (x : Hits Row642) → x ≡ hits642 (found642 x)
     back None = refl
@@ -60,8 +60,8 @@ hits649 Nothing649 = None
 hits649 (One649 r) = One r
 hits649 (Many649 n) = Many n
 
-pub found-649 : (x : Hits Row649) {c k : Found649} → c ≡ found649 x → c ≡ k → x ≡ hits649 k
-found-649 = told found649 hits649 back
+pub found_649 : (x : Hits Row649) {c k : Found649} → c ≡ found649 x → c ≡ k → x ≡ hits649 k
+found_649 = told found649 hits649 back
   where
     back : (x : Hits Row649) → x ≡ hits649 (found649 x)
     back None = refl

@@ -3,8 +3,8 @@ ghost use Rattle.std.specs.Prelude.{◌≡◌, ◌+◌, ◌≤◌, length};
 ghost use Rattle.decimals.specs.Decimal.{space};
 ghost use Rattle.decimals.specs.Put.{Put};
 ghost use Rattle.records.specs.Layout.{said, refused};
-ghost use Rattle.records.specs.Numbers.{read-refusal};
-ghost use Rattle.records_730.specs.File730.{says-730};
+ghost use Rattle.records.specs.Numbers.{read_refusal};
+ghost use Rattle.records_730.specs.File730.{says_730};
 ghost use Rattle.unit_line.specs.Line.{amount, line};
 
 use decimals::{LINE_FEED, SPACE, put_field, put_text};
@@ -38,7 +38,7 @@ fn put_row(out: &mut [u8], at: usize, r: Record730) -> usize
 }
 
 fn number_of(e: ReadRefusal) -> u64
-    ensures { result ≡ read-refusal e }
+    ensures { result ≡ read_refusal e }
 {
     match e {
         ReadRefusal::Length => 201,
@@ -49,16 +49,16 @@ fn number_of(e: ReadRefusal) -> u64
 }
 
 fn put_refused(out: &mut [u8], at: usize, e: ReadRefusal) -> usize
-    requires { at + length (line (refused (read-refusal e))) ≤ length out.old }
-    ensures { Put out.old at (line (refused (read-refusal e))) out.new result }
+    requires { at + length (line (refused (read_refusal e))) ≤ length out.old }
+    ensures { Put out.old at (line (refused (read_refusal e))) out.new result }
 {
     let number = put_text(out, at, b"refused ");
     put_field(out, number, number_of(e), LINE_FEED)
 }
 
 pub fn put_line(out: &mut [u8], at: usize, v: Read730) -> usize
-    requires { at + length (line (says-730 v)) ≤ length out.old }
-    ensures { Put out.old at (line (says-730 v)) out.new result }
+    requires { at + length (line (says_730 v)) ≤ length out.old }
+    ensures { Put out.old at (line (says_730 v)) out.new result }
 {
     match v {
         Read730::Record(r) => put_row(out, at, r),

@@ -11,53 +11,53 @@ use borrow.Author.Tests.{eq-eqb, ne_eqb}
 use lib.ListN.{length, get_or, drop, drop_of_length-le, length-drop}
 use lib.Seq.{drop-cons}
 use lib.Dec.{eqb}
-use Rattle.records.proofs.Bools.{and-true}
-use Rattle.decimals.specs.Decimal.{line-feed}
-use Rattle.unit_lines.specs.Records.{crlf, carriage-return}
-use Rattle.unit_lines.specs.Machine.{end-in}
-use Rattle.decimals.proofs.Cases.{true-or-false}
-use Rattle.unit_lines.proofs.Run.{end-here, end_on}
+use Rattle.records.proofs.Bools.{and_true}
+use Rattle.decimals.specs.Decimal.{line_feed}
+use Rattle.unit_lines.specs.Records.{crlf, carriage_return}
+use Rattle.unit_lines.specs.Machine.{end_in}
+use Rattle.decimals.proofs.Cases.{true_or_false}
+use Rattle.unit_lines.proofs.Run.{end_here, end_on}
 
-and-false : (b : Bool) → false ≡ (b && false)
-and-false true = refl
-and-false false = refl
+and_false : (b : Bool) → false ≡ (b && false)
+and_false true = refl
+and_false false = refl
 
-pub crlf-feed : (p c : ℕ) → c ≡ line-feed → eqb p carriage-return ≡ crlf p c
-crlf-feed p c e = rw (eq-eqb c line-feed e) (and-true (eqb p carriage-return))
+pub crlf_feed : (p c : ℕ) → c ≡ line_feed → eqb p carriage_return ≡ crlf p c
+crlf_feed p c e = rw (eq-eqb c line_feed e) (and_true (eqb p carriage_return))
 
-pub crlf-not : (p c : ℕ) → (c ≡ line-feed → ⊥) → false ≡ crlf p c
-crlf-not p c n = rw (ne_eqb c line-feed n) (and-false (eqb p carriage-return))
+pub crlf_not : (p c : ℕ) → (c ≡ line_feed → ⊥) → false ≡ crlf p c
+crlf_not p c n = rw (ne_eqb c line_feed n) (and_false (eqb p carriage_return))
 
 module _ (p : ℕ) (s : List ℕ) (i : ℕ) (h : i < length s) where
-  pub end-found : crlf p (get_or s i 0) ≡ true → end-in p (drop i s) ≡ 0
-  end-found e = rw (drop-cons s i 0 h) (end-here p (get_or s i 0) (drop (suc i) s) e)
+  pub end_found : crlf p (get_or s i 0) ≡ true → end_in p (drop i s) ≡ 0
+  end_found e = rw (drop-cons s i 0 h) (end_here p (get_or s i 0) (drop (suc i) s) e)
 
-  pub end_later : crlf p (get_or s i 0) ≡ false → i + 1 + end-in (get_or s i 0) (drop (i + 1) s) ≡ i + end-in p (drop i s)
+  pub end_later : crlf p (get_or s i 0) ≡ false → i + 1 + end_in (get_or s i 0) (drop (i + 1) s) ≡ i + end_in p (drop i s)
   end_later e = rw (drop-cons s i 0 h, end_on p (get_or s i 0) (drop (suc i) s) e, add-one i) (omega arith)
 
-pub end-over : (p : ℕ) (s : List ℕ) (i : ℕ) → length s ≤ i → end-in p (drop i s) ≡ 0
-unfolding end-in
-end-over p s i h = rw (drop_of_length-le s h)
+pub end_over : (p : ℕ) (s : List ℕ) (i : ℕ) → length s ≤ i → end_in p (drop i s) ≡ 0
+unfolding end_in
+end_over p s i h = rw (drop_of_length-le s h)
 
-pub end-most : (p : ℕ) (s : List ℕ) → end-in p s ≤ length s
-unfolding end-in
-end-most p [] = omega arith
-end-most p (c ∷ s) =
+pub end_most : (p : ℕ) (s : List ℕ) → end_in p s ≤ length s
+unfolding end_in
+end_most p [] = omega arith
+end_most p (c ∷ s) =
     ⊎_elim
     (λ (e : crlf p c ≡ true). rw e (omega arith))
-    (λ (e : crlf p c ≡ false). rw e (omega (arith, end-most c s)))
-    (true-or-false (crlf p c))
+    (λ (e : crlf p c ≡ false). rw e (omega (arith, end_most c s)))
+    (true_or_false (crlf p c))
 
 -- no record ends with its first character
-pub end-first : (s : List ℕ) → 0 < length s → 0 < end-in 0 s
-unfolding end-in
-end-first [] h = absurd (not-suc-le-zero h)
-end-first (c ∷ s) h = omega arith
+pub end_first : (s : List ℕ) → 0 < length s → 0 < end_in 0 s
+unfolding end_in
+end_first [] h = absurd (not-suc-le-zero h)
+end_first (c ∷ s) h = omega arith
 
 -- an end that was found lies behind its record's first character
-pub found_inside : (s : List ℕ) (i e : ℕ) → i ≤ length s → e ≡ i + end-in 0 (drop i s) → (e ≡ length s → ⊥) → (i < e) × (e < length s)
+pub found_inside : (s : List ℕ) (i e : ℕ) → i ≤ length s → e ≡ i + end_in 0 (drop i s) → (e ≡ length s → ⊥) → (i < e) × (e < length s)
 found_inside s i e h f n =
     let l = length-drop i s in
-    let m = end-most 0 (drop i s) in
+    let m = end_most 0 (drop i s) in
     let b : e < length s = omega arith in
-    (omega (arith, end-first (drop i s) (omega arith)), b)
+    (omega (arith, end_first (drop i s) (omega arith)), b)

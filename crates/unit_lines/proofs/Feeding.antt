@@ -8,18 +8,18 @@ use lib.ListN.{length, take, drop, length-append, length-drop, drop_of_length-le
 use lib.Seq.{sets, length-take-le, take_all, drop-drop}
 use Rattle.decimals.specs.Put.{Put}
 use Rattle.unit_lines.specs.Records.{line_of}
-use Rattle.unit_lines.specs.Machine.{last_of, but_last, end-in, longest-line, Run, stopped, after, shrunk, keep, text_of}
+use Rattle.unit_lines.specs.Machine.{last_of, but_last, end_in, longest_line, Run, stopped, after, shrunk, keep, text_of}
 use Rattle.unit_lines.specs.Feeding.{feeding, Feeds, Moves}
 use Rattle.unit_lines.specs.declared.text.ListMachine.{ListMachine}
 use Rattle.unit_lines.specs.declared.machine.Fed.{Fed}
 use Rattle.unit_lines.specs.declared.machine.Moved.{Moved}
-use Rattle.decimals.proofs.Cases.{lt-or-ge}
+use Rattle.decimals.proofs.Cases.{lt_or_ge}
 use Rattle.decimals.proofs.Puts.{put_on}
-use Rattle.unit_lines.proofs.Run.{run-full, run-none-left, run_none, run_end}
-use Rattle.unit_lines.proofs.Ends.{end-most, end-first}
-use Rattle.unit_lines.proofs.Shrunk.{shrunk-short, shrunk-long, kept-text, line-shrunk}
-use Rattle.unit_lines.proofs.Kept.{last_none, keep-more}
-use Rattle.unit_lines.proofs.Whole.{run-from, put-length}
+use Rattle.unit_lines.proofs.Run.{run_full, run_none_left, run_none, run_end}
+use Rattle.unit_lines.proofs.Ends.{end_most, end_first}
+use Rattle.unit_lines.proofs.Shrunk.{shrunk_short, shrunk_long, kept_text, line_shrunk}
+use Rattle.unit_lines.proofs.Kept.{last_none, keep_more}
+use Rattle.unit_lines.proofs.Whole.{run_from, put_length}
 
 -- what a run says is what a call promises
 feeds : (m : ListMachine) (input : List ℕ) (from : ℕ) (old : List ℕ) (at : ℕ) (new : List ℕ) (f : Fed) (r : Run)
@@ -27,48 +27,48 @@ feeds : (m : ListMachine) (input : List ℕ) (from : ℕ) (old : List ℕ) (at :
     → Feeds m input from old at new f
 feeds m input from old at new f r e g b w = record { result = rw e g; bytes = rw e b; room = w }
 
-pub feeds-nothing : (m : ListMachine) (input : List ℕ) (from : ℕ) (old : List ℕ) (at : ℕ) (k : ListMachine) → feeding m input from old at ≡ stopped (text_of m) → k ≡ keep (text_of m ++ [])
+pub feeds_nothing : (m : ListMachine) (input : List ℕ) (from : ℕ) (old : List ℕ) (at : ℕ) (k : ListMachine) → feeding m input from old at ≡ stopped (text_of m) → k ≡ keep (text_of m ++ [])
     → Feeds m input from old at old (record { machine = k; taken = 0; written = 0 })
-feeds-nothing m input from old at k e g = feeds m input from old at old (record { machine = k; taken = 0; written = 0 }) (stopped (text_of m)) e (rw (g, append-nil (text_of m))) refl (omega arith)
+feeds_nothing m input from old at k e g = feeds m input from old at old (record { machine = k; taken = 0; written = 0 }) (stopped (text_of m)) e (rw (g, append-nil (text_of m))) refl (omega arith)
 
-pub past-input : (m : ListMachine) (input : List ℕ) (from : ℕ) (old : List ℕ) (at : ℕ) → length input < from → feeding m input from old at ≡ stopped (text_of m)
-past-input m input from old at h =
+pub past_input : (m : ListMachine) (input : List ℕ) (from : ℕ) (old : List ℕ) (at : ℕ) → length input < from → feeding m input from old at ≡ stopped (text_of m)
+past_input m input from old at h =
     let i : length input ≤ from = omega arith in
-    rw (drop_of_length-le input i) (run-none-left (length old - at) (text_of m))
+    rw (drop_of_length-le input i) (run_none_left (length old - at) (text_of m))
 
-pub no_room : (m : ListMachine) (input : List ℕ) (from : ℕ) (old : List ℕ) (at : ℕ) → length old - at < longest-line → feeding m input from old at ≡ stopped (text_of m)
-no_room m input from old at h = run-full (length old - at) (text_of m) (drop from input) h
+pub no_room : (m : ListMachine) (input : List ℕ) (from : ℕ) (old : List ℕ) (at : ℕ) → length old - at < longest_line → feeding m input from old at ≡ stopped (text_of m)
+no_room m input from old at h = run_full (length old - at) (text_of m) (drop from input) h
 
-some-text : (t s : List ℕ) → end-in (last_of t) s < length s → 0 < length (t ++ take (end-in (last_of t) s) s)
-some-text t s h =
-    let k = end-in (last_of t) s in
+some_text : (t s : List ℕ) → end_in (last_of t) s < length s → 0 < length (t ++ take (end_in (last_of t) s) s)
+some_text t s h =
+    let k = end_in (last_of t) s in
     let l : length (t ++ take k s) ≡ length t + k = rw (length-append t (take k s), length-take-le k s (omega arith)) in
     ⊎_elim
     (λ (a : 0 < length t). omega arith)
     (λ (a : length t ≤ 0).
     let z : last_of t ≡ 0 = last_none t (omega arith) in
-    let f : 0 < end-in (last_of t) s = rw z (end-first s (omega arith)) in
+    let f : 0 < end_in (last_of t) s = rw z (end_first s (omega arith)) in
     omega arith)
-    (lt-or-ge 0 (length t))
+    (lt_or_ge 0 (length t))
 
-some-kept : (t : List ℕ) → 0 < length t → 0 < length (shrunk t)
-some-kept t h =
+some_kept : (t : List ℕ) → 0 < length t → 0 < length (shrunk t)
+some_kept t h =
     ⊎_elim
-    (λ (a : 66 < length t). rw (shrunk-long t a, length-append (take 65 t) (last_of t ∷ [])) (omega arith))
-    (λ (a : length t ≤ 66). rw (shrunk-short t a) h)
-    (lt-or-ge 66 (length t))
+    (λ (a : 66 < length t). rw (shrunk_long t a, length-append (take 65 t) (last_of t ∷ [])) (omega arith))
+    (λ (a : length t ≤ 66). rw (shrunk_short t a) h)
+    (lt_or_ge 66 (length t))
 
-module _ (m : ListMachine) (input : List ℕ) (from : ℕ) (old : List ℕ) (at : ℕ) (e : ℕ) (inside : from ≤ length input) (room : longest-line ≤ length old - at)
-    (found : e ≡ from + end-in (last_of (text_of m)) (drop from input)) where
-  pub end-inside : (from ≤ e) × (e ≤ length input)
-  end-inside =
-      let a = end-most (last_of (text_of m)) (drop from input) in
+module _ (m : ListMachine) (input : List ℕ) (from : ℕ) (old : List ℕ) (at : ℕ) (e : ℕ) (inside : from ≤ length input) (room : longest_line ≤ length old - at)
+    (found : e ≡ from + end_in (last_of (text_of m)) (drop from input)) where
+  pub end_inside : (from ≤ e) × (e ≤ length input)
+  end_inside =
+      let a = end_most (last_of (text_of m)) (drop from input) in
       let n = length-drop from input in
       (omega arith, omega arith)
 
   -- no record ends
-  pub feeds-text : (k : ListMachine) → e ≡ length input → k ≡ keep (text_of m ++ take (e - from) (drop from input)) → Feeds m input from old at old (record { machine = k; taken = e - from; written = 0 })
-  feeds-text k h g =
+  pub feeds_text : (k : ListMachine) → e ≡ length input → k ≡ keep (text_of m ++ take (e - from) (drop from input)) → Feeds m input from old at old (record { machine = k; taken = e - from; written = 0 })
+  feeds_text k h g =
       let s = drop from input in
       let n = length-drop from input in
       let l : e - from ≡ length s = omega arith in
@@ -80,44 +80,44 @@ module _ (m : ListMachine) (input : List ℕ) (from : ℕ) (old : List ℕ) (at 
 
   -- a record ends: its line, and on behind it
   module _ (before-end : e < length input) (begun : ListMachine) (kept : begun ≡ keep (text_of m ++ take (e - from) (drop from input))) where
-    begun-text : text_of begun ≡ shrunk (text_of m ++ take (e - from) (drop from input))
-    begun-text = ap text_of kept ∙ kept-text (text_of m ++ take (e - from) (drop from input))
+    begun_text : text_of begun ≡ shrunk (text_of m ++ take (e - from) (drop from input))
+    begun_text = ap text_of kept ∙ kept_text (text_of m ++ take (e - from) (drop from input))
 
-    count : e - from ≡ end-in (last_of (text_of m)) (drop from input)
+    count : e - from ≡ end_in (last_of (text_of m)) (drop from input)
     count = omega arith
 
-    found_inside : end-in (last_of (text_of m)) (drop from input) < length (drop from input)
+    found_inside : end_in (last_of (text_of m)) (drop from input) < length (drop from input)
     found_inside = omega (arith, length-drop from input)
 
-    pub begun-some : 0 < length (text_of begun)
-    begun-some = rw (begun-text, count) (some-kept (text_of m ++ take (end-in (last_of (text_of m)) (drop from input)) (drop from input)) (some-text (text_of m) (drop from input) found_inside))
+    pub begun_some : 0 < length (text_of begun)
+    begun_some = rw (begun_text, count) (some_kept (text_of m ++ take (end_in (last_of (text_of m)) (drop from input)) (drop from input)) (some_text (text_of m) (drop from input) found_inside))
 
-    feeding-on : (mid : List ℕ) (end : ℕ) → Put old at (line_of (but_last (text_of begun))) mid end
-        → feeding m input from old at ≡ after (e + 1 - from) (line_of (but_last (text_of begun))) (run-from input (e + 1) mid end)
-    feeding-on mid end p =
+    feeding_on : (mid : List ℕ) (end : ℕ) → Put old at (line_of (but_last (text_of begun))) mid end
+        → feeding m input from old at ≡ after (e + 1 - from) (line_of (but_last (text_of begun))) (run_from input (e + 1) mid end)
+    feeding_on mid end p =
         let s = drop from input in
-        let k = end-in (last_of (text_of m)) s in
+        let k = end_in (last_of (text_of m)) s in
         let w = text_of m ++ take k s in
-        let l : line_of (but_last (text_of begun)) ≡ line_of (but_last w) = rw (begun-text, count) (line-shrunk w) in
+        let l : line_of (but_last (text_of begun)) ≡ line_of (but_last w) = rw (begun_text, count) (line_shrunk w) in
         let b : suc k ≡ e + 1 - from = omega arith in
         let j : from + suc k ≡ e + 1 = omega arith in
         let d : drop (suc k) s ≡ drop (e + 1) input = drop-drop (suc k) from input ∙ rw j in
-        let r : length mid - end ≡ length old - at - length (line_of (but_last (text_of begun))) = omega (arith, put-length p, p.place) in
+        let r : length mid - end ≡ length old - at - length (line_of (but_last (text_of begun))) = omega (arith, put_length p, p.place) in
         run_end (length old - at) room (text_of m) s found_inside ∙ rw (← l, d, b, ← r)
 
-    pub feeds-records : (mid : List ℕ) (end : ℕ) (new : List ℕ) (moved : Moved) (none k : ListMachine) → Put old at (line_of (but_last (text_of begun))) mid end
-        → Moves (run-from input (e + 1) mid end) input (e + 1) mid end new moved
+    pub feeds_records : (mid : List ℕ) (end : ℕ) (new : List ℕ) (moved : Moved) (none k : ListMachine) → Put old at (line_of (but_last (text_of begun))) mid end
+        → Moves (run_from input (e + 1) mid end) input (e + 1) mid end new moved
         → none ≡ keep [] → k ≡ keep (text_of none ++ take (moved.stop - moved.next) (drop moved.next input))
         → Feeds m input from old at new (record { machine = k; taken = moved.stop - from; written = moved.end - at })
-    feeds-records mid end new moved none k p v n g =
+    feeds_records mid end new moved none k p v n g =
         let l = line_of (but_last (text_of begun)) in
-        let r = run-from input (e + 1) mid end in
+        let r = run_from input (e + 1) mid end in
         let q : Put old at (l ++ r.written) new moved.end = put_on p (record { bytes = v.bytes; place = v.written }) in
-        let a : k ≡ keep r.held = g ∙ (keep-more none [] _ n ∙ ap keep (sym v.held)) in
+        let a : k ≡ keep r.held = g ∙ (keep_more none [] _ n ∙ ap keep (sym v.held)) in
         let t : moved.stop - from ≡ e + 1 - from + r.taken = omega (arith, v.taken) in
         let w : moved.end - at ≡ length (l ++ r.written) = omega (arith, q.place) in
         feeds m input from old at new (record { machine = k; taken = moved.stop - from; written = moved.end - at }) (after (e + 1 - from) l r)
-        (feeding-on mid end p)
+        (feeding_on mid end p)
         (rw (a, t, w))
         q.bytes
-        (omega (arith, q.place, v.room, put-length p))
+        (omega (arith, q.place, v.room, put_length p))

@@ -10,79 +10,79 @@ use borrow.Author.Tests.{lt-ltb, le-ltb}
 use lib.ListN.{length}
 use lib.Dec.{ltb}
 use Rattle.decimals.specs.Put.{Put}
-use Rattle.decimals.proofs.Cases.{lt-or-ge}
-use Rattle.unit_lines.specs.Records.{line_of, lines_of, unless-empty}
-use Rattle.unit_lines.specs.Machine.{longest-line, last_line, text_of}
+use Rattle.decimals.proofs.Cases.{lt_or_ge}
+use Rattle.unit_lines.specs.Records.{line_of, lines_of, unless_empty}
+use Rattle.unit_lines.specs.Machine.{longest_line, last_line, text_of}
 use Rattle.unit_lines.specs.Feeding.{finishing, Finishes}
-use Rattle.unit_lines.specs.Listing.{written-by}
+use Rattle.unit_lines.specs.Listing.{written_by}
 use Rattle.unit_lines.specs.declared.text.ListMachine.{ListMachine}
 use Rattle.unit_lines.specs.declared.machine.Finished.TheVariants.{Line, NoRecord, NoRoom}
 use Rattle.unit_lines.proofs.Longest.{longest}
 use Rattle.unit_lines.proofs.Shrunk.{one_line}
 
-same-either : (b : Bool) (l : List ℕ) → cond b l l ≡ l
-same-either true l = refl
-same-either false l = refl
+same_either : (b : Bool) (l : List ℕ) → cond b l l ≡ l
+same_either true l = refl
+same_either false l = refl
 
-no-record-line : (room : ℕ) (t : List ℕ) → length t ≡ 0 → last_line room t ≡ []
+no_record_line : (room : ℕ) (t : List ℕ) → length t ≡ 0 → last_line room t ≡ []
 unfolding last_line lines_of
-no-record-line room [] h = same-either (ltb room longest-line) []
-no-record-line room (c ∷ t) h = absurd (let y : ⊥ = omega arith in y)
+no_record_line room [] h = same_either (ltb room longest_line) []
+no_record_line room (c ∷ t) h = absurd (let y : ⊥ = omega arith in y)
 
 no_record : (room : ℕ) (t : List ℕ) → length t ≡ 0 → NoRecord ≡ finishing room t
 unfolding finishing
 no_record room [] h = refl
 no_record room (c ∷ t) h = absurd (let y : ⊥ = omega arith in y)
 
-no-room-line : (room : ℕ) (t : List ℕ) → room < longest-line → last_line room t ≡ []
+no_room_line : (room : ℕ) (t : List ℕ) → room < longest_line → last_line room t ≡ []
 unfolding last_line
-no-room-line room t h = rw (lt-ltb room longest-line h)
+no_room_line room t h = rw (lt-ltb room longest_line h)
 
-no_room : (room : ℕ) (t : List ℕ) → room < longest-line → 0 < length t → NoRoom ≡ finishing room t
+no_room : (room : ℕ) (t : List ℕ) → room < longest_line → 0 < length t → NoRoom ≡ finishing room t
 unfolding finishing
 no_room room [] h s = absurd (not-suc-le-zero s)
-no_room room (c ∷ t) h s = rw (lt-ltb room longest-line h)
+no_room room (c ∷ t) h s = rw (lt-ltb room longest_line h)
 
-a-line-line : (room : ℕ) (t : List ℕ) → longest-line ≤ room → 0 < length t → last_line room t ≡ line_of t
+a_line_line : (room : ℕ) (t : List ℕ) → longest_line ≤ room → 0 < length t → last_line room t ≡ line_of t
 unfolding last_line
-a-line-line room t h s = rw (le-ltb room longest-line h) (one_line t s)
+a_line_line room t h s = rw (le-ltb room longest_line h) (one_line t s)
 
-a-line : (room : ℕ) (t : List ℕ) → longest-line ≤ room → 0 < length t → finishing room t ≡ Line (length (line_of t))
+a_line : (room : ℕ) (t : List ℕ) → longest_line ≤ room → 0 < length t → finishing room t ≡ Line (length (line_of t))
 unfolding finishing
-a-line room [] h s = absurd (not-suc-le-zero s)
-a-line room (c ∷ t) h s = rw (le-ltb room longest-line h)
+a_line room [] h s = absurd (not-suc-le-zero s)
+a_line room (c ∷ t) h s = rw (le-ltb room longest_line h)
 
 module _ (m : ListMachine) (old : List ℕ) (at : ℕ) where
-  pub finish-none : length (text_of m) ≡ 0 → Finishes m old at old NoRecord
-  finish-none h = record { result = no_record (length old - at) (text_of m) h; bytes = rw (no-record-line (length old - at) (text_of m) h) }
+  pub finish_none : length (text_of m) ≡ 0 → Finishes m old at old NoRecord
+  finish_none h = record { result = no_record (length old - at) (text_of m) h; bytes = rw (no_record_line (length old - at) (text_of m) h) }
 
-  pub finish-full : length old - at < longest-line → 0 < length (text_of m) → Finishes m old at old NoRoom
-  finish-full h s = record { result = no_room (length old - at) (text_of m) h s; bytes = rw (no-room-line (length old - at) (text_of m) h) }
+  pub finish_full : length old - at < longest_line → 0 < length (text_of m) → Finishes m old at old NoRoom
+  finish_full h s = record { result = no_room (length old - at) (text_of m) h s; bytes = rw (no_room_line (length old - at) (text_of m) h) }
 
-  pub finish-line : (new : List ℕ) (end : ℕ) → longest-line ≤ length old - at → 0 < length (text_of m) → Put old at (line_of (text_of m)) new end → Finishes m old at new (Line (end - at))
-  finish-line new end h s p =
+  pub finish_line : (new : List ℕ) (end : ℕ) → longest_line ≤ length old - at → 0 < length (text_of m) → Put old at (line_of (text_of m)) new end → Finishes m old at new (Line (end - at))
+  finish_line new end h s p =
       let n : end - at ≡ length (line_of (text_of m)) = omega (arith, p.place) in
-      record { result = ap Line n ∙ sym (a-line (length old - at) (text_of m) h s); bytes = rw (a-line-line (length old - at) (text_of m) h s) p.bytes }
+      record { result = ap Line n ∙ sym (a_line (length old - at) (text_of m) h s); bytes = rw (a_line_line (length old - at) (text_of m) h s) p.bytes }
 
-pub last-longest : (t : List ℕ) → length (lines_of (unless-empty t)) ≤ longest-line
+pub last_longest : (t : List ℕ) → length (lines_of (unless_empty t)) ≤ longest_line
 unfolding lines_of
-last-longest [] = omega arith
-last-longest (c ∷ t) = rw (append-nil (line_of (c ∷ t))) (longest (c ∷ t))
+last_longest [] = omega arith
+last_longest (c ∷ t) = rw (append-nil (line_of (c ∷ t))) (longest (c ∷ t))
 
 -- an answer that is not "no room": the line of the text, if it is one, was written
 pub finished : (room : ℕ) (t : List ℕ) → (finishing room t ≡ NoRoom → ⊥)
-    → (written-by (finishing room t) ≡ length (lines_of (unless-empty t))) × (last_line room t ≡ lines_of (unless-empty t)) × (length (lines_of (unless-empty t)) ≤ room)
+    → (written_by (finishing room t) ≡ length (lines_of (unless_empty t))) × (last_line room t ≡ lines_of (unless_empty t)) × (length (lines_of (unless_empty t)) ≤ room)
 unfolding finishing last_line lines_of
-finished room [] n = (refl, same-either (ltb room longest-line) [], omega arith)
+finished room [] n = (refl, same_either (ltb room longest_line) [], omega arith)
 finished room (c ∷ t) n =
     ⊎_elim
-    (λ (h : room < longest-line). absurd (n (rw (lt-ltb room longest-line h))))
-    (λ (h : longest-line ≤ room).
-    let e : length (line_of (c ∷ t)) ≡ length (lines_of (unless-empty (c ∷ t))) = ap length (sym (one_line (c ∷ t) (omega arith))) in
-    (rw (le-ltb room longest-line h) e, rw (le-ltb room longest-line h), omega (arith, last-longest (c ∷ t))))
-    (lt-or-ge room longest-line)
+    (λ (h : room < longest_line). absurd (n (rw (lt-ltb room longest_line h))))
+    (λ (h : longest_line ≤ room).
+    let e : length (line_of (c ∷ t)) ≡ length (lines_of (unless_empty (c ∷ t))) = ap length (sym (one_line (c ∷ t) (omega arith))) in
+    (rw (le-ltb room longest_line h) e, rw (le-ltb room longest_line h), omega (arith, last_longest (c ∷ t))))
+    (lt_or_ge room longest_line)
 
-pub room-finishes : (room : ℕ) (t : List ℕ) → longest-line ≤ room → finishing room t ≡ NoRoom → ⊥
+pub room_finishes : (room : ℕ) (t : List ℕ) → longest_line ≤ room → finishing room t ≡ NoRoom → ⊥
 unfolding finishing
-room-finishes room [] h e = let z : ◌≡◌ {A = ℕ} 0 1 = cc in let y : ⊥ = omega arith in y
-room-finishes room (c ∷ t) h e = let f : Line (length (line_of (c ∷ t))) ≡ NoRoom = rw (le-ltb room longest-line h) at e in let z : ◌≡◌ {A = ℕ} 0 1 = cc in let y : ⊥ = omega arith in y
+room_finishes room [] h e = let z : ◌≡◌ {A = ℕ} 0 1 = cc in let y : ⊥ = omega arith in y
+room_finishes room (c ∷ t) h e = let f : Line (length (line_of (c ∷ t))) ≡ NoRoom = rw (le-ltb room longest_line h) at e in let z : ◌≡◌ {A = ℕ} 0 1 = cc in let y : ⊥ = omega arith in y

@@ -7,91 +7,91 @@ use native.Mathlib.Omega.{arith}
 use native.Mathlib.Nat.{not-suc-le-zero}
 use lib.ListN.{length, get_or, take, set, length-append, length-take}
 use lib.Seq.{sets, set-set, take-suc, take-append-add, length-take-le, take_all, take-take}
-use Rattle.decimals.proofs.Puts.{sets-append}
-use Rattle.unit_lines.specs.Machine.{last_of, but_last, kept-most, shrunk, no_bytes, keep, text_of}
+use Rattle.decimals.proofs.Puts.{sets_append}
+use Rattle.unit_lines.specs.Machine.{last_of, but_last, kept_most, shrunk, no_bytes, keep, text_of}
 use Rattle.unit_lines.specs.declared.text.ListMachine.{ListMachine}
-use Rattle.unit_lines.proofs.Shrunk.{shrunk-short, shrunk-long, length-shrunk, shrunk-more, kept-text, last-append}
-use Rattle.decimals.proofs.Cases.{lt-or-ge}
+use Rattle.unit_lines.proofs.Shrunk.{shrunk_short, shrunk_long, length_shrunk, shrunk_more, kept_text, last_append}
+use Rattle.decimals.proofs.Cases.{lt_or_ge}
 
-pub keep-short : (t : List ℕ) → length t ≤ kept-most → keep t ≡ record { bytes = sets no_bytes 0 t; len = length t }
+pub keep_short : (t : List ℕ) → length t ≤ kept_most → keep t ≡ record { bytes = sets no_bytes 0 t; len = length t }
 unfolding keep
-keep-short t h = rw (shrunk-short t h)
+keep_short t h = rw (shrunk_short t h)
 
-last-put : (l v : List ℕ) (y x n : ℕ) → length v ≡ n → set (sets l 0 (v ++ (y ∷ []))) n x ≡ sets l 0 (v ++ (x ∷ []))
-last-put l v y x n e =
+last_put : (l v : List ℕ) (y x n : ℕ) → length v ≡ n → set (sets l 0 (v ++ (y ∷ []))) n x ≡ sets l 0 (v ++ (x ∷ []))
+last_put l v y x n e =
     let z : 0 + length v ≡ n = omega arith in
-    rw (sets-append l 0 v (y ∷ []), sets-append l 0 v (x ∷ []), z) (set-set (sets l 0 v) n y x)
+    rw (sets_append l 0 v (y ∷ []), sets_append l 0 v (x ∷ []), z) (set-set (sets l 0 v) n y x)
 
 pub last_none : (t : List ℕ) → length t ≡ 0 → last_of t ≡ 0
 last_none [] h = refl
 last_none (c ∷ t) h = absurd (let y : ⊥ = omega arith in y)
 
-last-behind : (t u : List ℕ) → 0 < length u → last_of (t ++ u) ≡ last_of u
-last-behind t [] h = absurd (not-suc-le-zero h)
-last-behind t (c ∷ u) h = last-append t c u
+last_behind : (t u : List ℕ) → 0 < length u → last_of (t ++ u) ≡ last_of u
+last_behind t [] h = absurd (not-suc-le-zero h)
+last_behind t (c ∷ u) h = last_append t c u
 
 -- a machine that holds nothing but its text
 module _ (m : ListMachine) (e : m ≡ keep (text_of m)) where
-  text-shrunk : shrunk (text_of m) ≡ text_of m
-  text-shrunk = sym (kept-text (text_of m)) ∙ ap text_of (sym e)
+  text_shrunk : shrunk (text_of m) ≡ text_of m
+  text_shrunk = sym (kept_text (text_of m)) ∙ ap text_of (sym e)
 
-  pub text-most : length (text_of m) ≤ kept-most
-  text-most = rw text-shrunk at (length-shrunk (text_of m))
+  pub text_most : length (text_of m) ≤ kept_most
+  text_most = rw text_shrunk at (length_shrunk (text_of m))
 
   plain : m ≡ record { bytes = sets no_bytes 0 (text_of m); len = length (text_of m) }
-  plain = e ∙ keep-short (text_of m) text-most
+  plain = e ∙ keep_short (text_of m) text_most
 
-  pub text-length : m.len ≡ length (text_of m)
-  text-length = ap (λ (x : ListMachine). x.len) plain
+  pub text_length : m.len ≡ length (text_of m)
+  text_length = ap (λ (x : ListMachine). x.len) plain
 
-  text-bytes : m.bytes ≡ sets no_bytes 0 (text_of m)
-  text-bytes = ap (λ (x : ListMachine). x.bytes) plain
+  text_bytes : m.bytes ≡ sets no_bytes 0 (text_of m)
+  text_bytes = ap (λ (x : ListMachine). x.bytes) plain
 
   behind : (u : List ℕ) → sets m.bytes m.len u ≡ sets no_bytes 0 (text_of m ++ u)
   behind u =
       let z : 0 + length (text_of m) ≡ length (text_of m) = omega arith in
-      rw (sets-append no_bytes 0 (text_of m) u, z, ← text-bytes, ← text-length)
+      rw (sets_append no_bytes 0 (text_of m) u, z, ← text_bytes, ← text_length)
 
-  pub more-all : (u : List ℕ) → m.len + length u ≤ kept-most → record { bytes = sets m.bytes m.len u; len = m.len + length u } ≡ keep (text_of m ++ u)
-  more-all u h =
-      let l : length (text_of m ++ u) ≡ m.len + length u = rw (length-append (text_of m) u, ← text-length) in
-      rw (keep-short (text_of m ++ u) (rw l h), behind u, l)
+  pub more_all : (u : List ℕ) → m.len + length u ≤ kept_most → record { bytes = sets m.bytes m.len u; len = m.len + length u } ≡ keep (text_of m ++ u)
+  more_all u h =
+      let l : length (text_of m ++ u) ≡ m.len + length u = rw (length-append (text_of m) u, ← text_length) in
+      rw (keep_short (text_of m ++ u) (rw l h), behind u, l)
 
-  pub more_cut : (u : List ℕ) (n : ℕ) → m.len + n ≡ kept-most → n < length u
+  pub more_cut : (u : List ℕ) (n : ℕ) → m.len + n ≡ kept_most → n < length u
       → record { bytes = set (sets m.bytes m.len (take n u)) 65 (last_of u); len = m.len + n } ≡ keep (text_of m ++ u)
   unfolding keep
   more_cut u n h i =
       let w = text_of m ++ u in
-      let l : 66 < length w = rw (length-append (text_of m) u, ← text-length) (omega arith) in
+      let l : 66 < length w = rw (length-append (text_of m) u, ← text_length) (omega arith) in
       let k : length (take 65 w) ≡ 65 = length-take-le 65 w (omega arith) in
-      let a : length (text_of m) + n ≡ 66 = rw (← text-length) h in
+      let a : length (text_of m) + n ≡ 66 = rw (← text_length) h in
       let f : text_of m ++ take n u ≡ take 65 w ++ (get_or w 65 0 ∷ []) = sym (take-append-add (text_of m) u n) ∙ rw a (take-suc w 65 0 (omega arith)) in
-      let s : shrunk w ≡ take 65 w ++ (last_of u ∷ []) = shrunk-long w l ∙ rw (last-behind (text_of m) u (omega arith)) in
-      let b : set (sets m.bytes m.len (take n u)) 65 (last_of u) ≡ sets no_bytes 0 (shrunk w) = rw (behind (take n u), f, s) (last-put no_bytes (take 65 w) (get_or w 65 0) (last_of u) 65 k) in
+      let s : shrunk w ≡ take 65 w ++ (last_of u ∷ []) = shrunk_long w l ∙ rw (last_behind (text_of m) u (omega arith)) in
+      let b : set (sets m.bytes m.len (take n u)) 65 (last_of u) ≡ sets no_bytes 0 (shrunk w) = rw (behind (take n u), f, s) (last_put no_bytes (take 65 w) (get_or w 65 0) (last_of u) 65 k) in
       let g : length (shrunk w) ≡ 66 = rw (s, length-append (take 65 w) (last_of u ∷ []), k) in
       rw (b, g, h)
 
-keep-shrunk : (t u : List ℕ) → shrunk t ≡ shrunk u → keep t ≡ keep u
+keep_shrunk : (t u : List ℕ) → shrunk t ≡ shrunk u → keep t ≡ keep u
 unfolding keep
-keep-shrunk t u e = rw e
+keep_shrunk t u e = rw e
 
-pub is-kept : (m : ListMachine) (t : List ℕ) → m ≡ keep t → m ≡ keep (text_of m)
-is-kept m t e = e ∙ sym (rw (e, kept-text t) (keep-shrunk (shrunk t) t (shrunk-short (shrunk t) (length-shrunk t))))
+pub is_kept : (m : ListMachine) (t : List ℕ) → m ≡ keep t → m ≡ keep (text_of m)
+is_kept m t e = e ∙ sym (rw (e, kept_text t) (keep_shrunk (shrunk t) t (shrunk_short (shrunk t) (length_shrunk t))))
 
-pub keep-more : (m : ListMachine) (t u : List ℕ) → m ≡ keep t → keep (text_of m ++ u) ≡ keep (t ++ u)
-keep-more m t u e = rw (e, kept-text t) (keep-shrunk (shrunk t ++ u) (t ++ u) (shrunk-more t u))
+pub keep_more : (m : ListMachine) (t u : List ℕ) → m ≡ keep t → keep (text_of m ++ u) ≡ keep (t ++ u)
+keep_more m t u e = rw (e, kept_text t) (keep_shrunk (shrunk t ++ u) (t ++ u) (shrunk_more t u))
 
-pub take-text : (m : ListMachine) (n : ℕ) → n ≡ length (text_of m) → take n m.bytes ≡ text_of m
-take-text m n e =
+pub take_text : (m : ListMachine) (n : ℕ) → n ≡ length (text_of m) → take n m.bytes ≡ text_of m
+take_text m n e =
     let f = length-take m.len m.bytes in
     ⊎_elim
     (λ (h : m.len < length m.bytes). let g : n ≡ m.len = omega arith in rw g)
     (λ (h : length m.bytes ≤ m.len). take_all n m.bytes (omega arith) ∙ sym (take_all m.len m.bytes h))
-    (lt-or-ge m.len (length m.bytes))
+    (lt_or_ge m.len (length m.bytes))
 
-pub text-inside : (m : ListMachine) (n : ℕ) → n ≡ length (text_of m) → n ≤ length m.bytes
-text-inside m n e = omega (arith, length-take m.len m.bytes)
+pub text_inside : (m : ListMachine) (n : ℕ) → n ≡ length (text_of m) → n ≤ length m.bytes
+text_inside m n e = omega (arith, length-take m.len m.bytes)
 
 -- all characters of the text but the last
-pub take-but-last : (m : ListMachine) (n : ℕ) → n ≡ length (text_of m) → take (n - 1) m.bytes ≡ but_last (text_of m)
-take-but-last m n e = sym (rw (← e, ← take-text m n e) (take-take (n - 1) n m.bytes (omega arith)))
+pub take_but_last : (m : ListMachine) (n : ℕ) → n ≡ length (text_of m) → take (n - 1) m.bytes ≡ but_last (text_of m)
+take_but_last m n e = sym (rw (← e, ← take_text m n e) (take-take (n - 1) n m.bytes (omega arith)))

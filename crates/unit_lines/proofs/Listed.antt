@@ -6,28 +6,28 @@ use mathlib.Core.Path.{◌≡◌, refl, sym, ap, ◌∙◌}
 use native.Mathlib.Omega.{arith}
 use lib.ListN.{length, take, drop}
 use lib.Seq.{sets, sets-eq, take_at, drop_at, length-take-le}
-use Rattle.unit_lines.specs.Records.{records-of, line_of, lines_of, unless-empty, unit-list}
+use Rattle.unit_lines.specs.Records.{records_of, line_of, lines_of, unless_empty, unit_list}
 use Rattle.unit_lines.specs.Machine.{go_on, shrunk, keep, text_of}
 use Rattle.unit_lines.specs.Feeding.{feeding, Feeds, Finishes}
-use Rattle.unit_lines.specs.Listing.{Lists, Rests, fetched, written-by, Listed, start, fed, piece}
+use Rattle.unit_lines.specs.Listing.{Lists, Rests, fetched, written_by, Listed, start, fed, piece}
 use Rattle.unit_lines.specs.declared.text.ListMachine.{ListMachine}
 use Rattle.unit_lines.specs.declared.machine.Fed.{Fed}
 use Rattle.unit_lines.specs.declared.machine.Finished.{Finished}
 use Rattle.unit_lines.specs.declared.machine.Finished.TheVariants.{NoRoom}
 use Rattle.unit_lines.specs.declared.listing.Piece.{Piece}
 use Rattle.unit_lines.proofs.Finishing.{finished}
-use Rattle.unit_lines.proofs.GoOn.{go-append, go-split}
-use Rattle.unit_lines.proofs.Run.{Taken, run-taken}
-use Rattle.unit_lines.proofs.Shrunk.{kept-text, ended-kept, rest-kept, last-kept}
+use Rattle.unit_lines.proofs.GoOn.{go_append, go_split}
+use Rattle.unit_lines.proofs.Run.{Taken, run_taken}
+use Rattle.unit_lines.proofs.Shrunk.{kept_text, ended_kept, rest_kept, last_kept}
 
-pub lines-append : (a b : List (List ℕ)) → lines_of (a ++ b) ≡ lines_of a ++ lines_of b
+pub lines_append : (a b : List (List ℕ)) → lines_of (a ++ b) ≡ lines_of a ++ lines_of b
 unfolding lines_of
-lines-append [] b = refl
-lines-append (t ∷ a) b = rw (lines-append a b) (sym (append_assoc (line_of t) (lines_of a) (lines_of b)))
+lines_append [] b = refl
+lines_append (t ∷ a) b = rw (lines_append a b) (sym (append_assoc (line_of t) (lines_of a) (lines_of b)))
 
-fetched-all : (old : List ℕ) (at : ℕ) (w : List ℕ) → length w ≤ length old - at → fetched (sets old at w) at (length w) ≡ w
-fetched-all old at [] h = refl
-fetched-all old at (c ∷ w) h =
+fetched_all : (old : List ℕ) (at : ℕ) (w : List ℕ) → length w ≤ length old - at → fetched (sets old at w) at (length w) ≡ w
+fetched_all old at [] h = refl
+fetched_all old at (c ∷ w) h =
     let r : at + length (c ∷ w) ≤ length old = omega arith in
     let rest = drop (at + length (c ∷ w)) old in
     let before : length (take at old) ≡ at = length-take-le at old (omega arith) in
@@ -39,58 +39,58 @@ record So (input output : List ℕ) (m : ListMachine) : Type 0 where
   text : text_of m ≡ shrunk (go_on [] input).rest
 
 -- the characters u taken, their lines w, and the text t held after them
-so-on : (input output : List ℕ) (m : ListMachine) (u w t : List ℕ) → So input output m → w ≡ lines_of (go_on (text_of m) u).ended → t ≡ (go_on (text_of m) u).rest
+so_on : (input output : List ℕ) (m : ListMachine) (u w t : List ℕ) → So input output m → w ≡ lines_of (go_on (text_of m) u).ended → t ≡ (go_on (text_of m) u).rest
     → So (input ++ u) (output ++ w) (keep t)
-so-on input output m u w t h a b =
+so_on input output m u w t h a b =
     let x = (go_on [] input).rest in
-    let g = go-append [] input u in
+    let g = go_append [] input u in
     record {
-      written = rw (g, h.written, a, h.text, lines-append (go_on [] input).ended (go_on x u).ended, ended-kept x u);
-      text = rw (g, kept-text t, b, h.text) (rest-kept x u);
+      written = rw (g, h.written, a, h.text, lines_append (go_on [] input).ended (go_on x u).ended, ended_kept x u);
+      text = rw (g, kept_text t, b, h.text) (rest_kept x u);
     }
 
-so-fed : (input output : List ℕ) (m : ListMachine) (s : List ℕ) (from : ℕ) (old : List ℕ) (at : ℕ) (new : List ℕ) (r : Fed) → So input output m → Feeds m s from old at new r
+so_fed : (input output : List ℕ) (m : ListMachine) (s : List ℕ) (from : ℕ) (old : List ℕ) (at : ℕ) (new : List ℕ) (r : Fed) → So input output m → Feeds m s from old at new r
     → So (input ++ take r.taken (drop from s)) (output ++ fetched new at r.written) r.machine
-so-fed input output m s from old at new r h p =
+so_fed input output m s from old at new r h p =
     let q = feeding m s from old at in
-    let t : Taken (text_of m) (drop from s) q = run-taken (length old - at) (text_of m) (drop from s) in
+    let t : Taken (text_of m) (drop from s) q = run_taken (length old - at) (text_of m) (drop from s) in
     let n : r.written ≡ length q.written = ap (λ (x : Fed). x.written) p.result in
     let k : length q.written ≤ length old - at = omega (arith, p.room) in
-    rw (p.result, p.bytes, fetched-all old at q.written k) (so-on input output m (take q.taken (drop from s)) q.written q.held h t.written t.held)
+    rw (p.result, p.bytes, fetched_all old at q.written k) (so_on input output m (take q.taken (drop from s)) q.written q.held h t.written t.held)
 
-so-piece : (input output : List ℕ) (m : ListMachine) (s old new : List ℕ) (r : Piece) → So input output m → Lists m s old new r
+so_piece : (input output : List ℕ) (m : ListMachine) (s old new : List ℕ) (r : Piece) → So input output m → Lists m s old new r
     → So (input ++ s) (output ++ fetched new 0 r.written) r.machine
-so-piece input output m s old new r h p =
+so_piece input output m s old new r h p =
     let w = lines_of (go_on (text_of m) s).ended in
     let n : r.written ≡ length w = ap (λ (x : Piece). x.written) p.result in
     let k : length w ≤ length old - 0 = omega (arith, p.room) in
-    rw (p.result, p.bytes, fetched-all old 0 w k) (so-on input output m s w (go_on (text_of m) s).rest h refl refl)
+    rw (p.result, p.bytes, fetched_all old 0 w k) (so_on input output m s w (go_on (text_of m) s).rest h refl refl)
 
 so : {input output : List ℕ} {m : ListMachine} → Listed input output m → So input output m
 unfolding go_on lines_of
-so (start m e) = record { written = refl; text = rw e (kept-text []) }
-so (fed {input = i} {output = o} {m = m} l s from old at new r p) = so-fed i o m s from old at new r (so l) p
-so (piece {input = i} {output = o} {m = m} l s old new r p) = so-piece i o m s old new r (so l) p
+so (start m e) = record { written = refl; text = rw e (kept_text []) }
+so (fed {input = i} {output = o} {m = m} l s from old at new r p) = so_fed i o m s from old at new r (so l) p
+so (piece {input = i} {output = o} {m = m} l s old new r p) = so_piece i o m s old new r (so l) p
 
 -- the line of a last record completes document 01's list
-complete : {input output : List ℕ} {m : ListMachine} → Listed input output m → output ++ lines_of (unless-empty (text_of m)) ≡ unit-list input
-unfolding unit-list records-of
+complete : {input output : List ℕ} {m : ListMachine} → Listed input output m → output ++ lines_of (unless_empty (text_of m)) ≡ unit_list input
+unfolding unit_list records_of
 complete {input} {output} {m} l =
     let k = so l in
     let t = (go_on [] input).rest in
-    rw (k.text, k.written, last-kept t, ← go-split input, lines-append (go_on [] input).ended (unless-empty t))
+    rw (k.text, k.written, last_kept t, ← go_split input, lines_append (go_on [] input).ended (unless_empty t))
 
 -- `finish`, unless it had no room, completes the unit list of all that was taken
 pub listed : {input output : List ℕ} {m : ListMachine} → Listed input output m → (old : List ℕ) (at : ℕ) (new : List ℕ) (r : Finished) → Finishes m old at new r → (r ≡ NoRoom → ⊥)
-    → output ++ fetched new at (written-by r) ≡ unit-list input
+    → output ++ fetched new at (written_by r) ≡ unit_list input
 listed {input} {output} {m} l old at new r p n =
-    let w = lines_of (unless-empty (text_of m)) in
+    let w = lines_of (unless_empty (text_of m)) in
     let f = finished (length old - at) (text_of m) (λ e. n (p.result ∙ e)) in
-    rw (p.result, p.bytes, f.0, f.1, fetched-all old at w f.2) (complete l)
+    rw (p.result, p.bytes, f.0, f.1, fetched_all old at w f.2) (complete l)
 
 -- and so does `list_rest`
-pub listed-rest : {input output : List ℕ} {m : ListMachine} → Listed input output m → (old new : List ℕ) (n : ℕ) → Rests m old new n → output ++ fetched new 0 n ≡ unit-list input
-listed-rest {input} {output} {m} l old new n p =
-    let w = lines_of (unless-empty (text_of m)) in
+pub listed_rest : {input output : List ℕ} {m : ListMachine} → Listed input output m → (old new : List ℕ) (n : ℕ) → Rests m old new n → output ++ fetched new 0 n ≡ unit_list input
+listed_rest {input} {output} {m} l old new n p =
+    let w = lines_of (unless_empty (text_of m)) in
     let k : length w ≤ length old - 0 = omega (arith, p.result, p.room) in
-    rw (p.result, p.bytes, fetched-all old 0 w k) (complete l)
+    rw (p.result, p.bytes, fetched_all old 0 w k) (complete l)

@@ -2,7 +2,7 @@
 use Rattle.std.specs.Prelude.{ℕ, ◌+◌, ◌-◌, ◌≤◌, cond, List, [], ◌∷◌, ◌≡◌, length, take, drop, ltb}
 use Rattle.std.proofs.lemmas.List.Edits.{sets}
 use Rattle.unit_lines.specs.Records.{line_of}
-use Rattle.unit_lines.specs.Machine.{longest-line, Run, run, last_line, keep, text_of}
+use Rattle.unit_lines.specs.Machine.{longest_line, Run, run, last_line, keep, text_of}
 use Rattle.unit_lines.specs.declared.text.ListMachine.{ListMachine}
 use Rattle.unit_lines.specs.declared.machine.Fed.{Fed}
 use Rattle.unit_lines.specs.declared.machine.Finished.{Finished}
@@ -21,7 +21,7 @@ pub record Feeds (m : ListMachine) (input : List ℕ) (from : ℕ) (old : List �
 -- what finishing answers, by the room and the text held
 unfoldable pub finishing : ℕ → List ℕ → Finished
 finishing room [] = NoRecord
-finishing room (c ∷ t) = cond (ltb room longest-line) NoRoom (Line (length (line_of (c ∷ t))))
+finishing room (c ∷ t) = cond (ltb room longest_line) NoRoom (Line (length (line_of (c ∷ t))))
 
 pub record Finishes (m : ListMachine) (old : List ℕ) (at : ℕ) (new : List ℕ) (r : Finished) : Type 0 where
   pub result : r ≡ finishing (length old - at) (text_of m)

@@ -1,8 +1,8 @@
 -- What the program's two calls promise: the lines of the whole piece, and the line of a last record; and what a caller fetches. Assumes nothing.
 use Rattle.std.specs.Prelude.{ℕ, ◌+◌, ◌*◌, ◌≤◌, List, [], ◌++◌, ◌≡◌, length, take, drop}
 use Rattle.std.proofs.lemmas.List.Edits.{sets}
-use Rattle.unit_lines.specs.Records.{lines_of, unless-empty}
-use Rattle.unit_lines.specs.Machine.{longest-line, kept-most, go_on, keep, text_of}
+use Rattle.unit_lines.specs.Records.{lines_of, unless_empty}
+use Rattle.unit_lines.specs.Machine.{longest_line, kept_most, go_on, keep, text_of}
 use Rattle.unit_lines.specs.Feeding.{Feeds}
 use Rattle.unit_lines.specs.declared.text.ListMachine.{ListMachine}
 use Rattle.unit_lines.specs.declared.machine.Fed.{Fed}
@@ -13,7 +13,7 @@ use Rattle.unit_lines.specs.declared.listing.Piece.{Piece}
 -- room for the lines of a piece of that length: six characters for each character held or in the piece (a CR LF alone has a line of twelve), and
 -- a longest line, without which nothing is taken
 abbrev pub room_for : ℕ → ℕ
-room_for n = longest-line + 6 * (kept-most + n)
+room_for n = longest_line + 6 * (kept_most + n)
 
 pub record Lists (m : ListMachine) (input old new : List ℕ) (r : Piece) : Type 0 where
   pub result : r ≡ record { machine = keep (go_on (text_of m) input).rest; written = length (lines_of (go_on (text_of m) input).ended) }
@@ -21,8 +21,8 @@ pub record Lists (m : ListMachine) (input old new : List ℕ) (r : Piece) : Type
   pub room : r.written ≤ length old
 
 pub record Rests (m : ListMachine) (old new : List ℕ) (n : ℕ) : Type 0 where
-  pub result : n ≡ length (lines_of (unless-empty (text_of m)))
-  pub bytes : new ≡ sets old 0 (lines_of (unless-empty (text_of m)))
+  pub result : n ≡ length (lines_of (unless_empty (text_of m)))
+  pub bytes : new ≡ sets old 0 (lines_of (unless_empty (text_of m)))
   pub room : n ≤ length old
 
 -- the characters that a call wrote: so many of the buffer from a place on
@@ -30,10 +30,10 @@ abbrev pub fetched : List ℕ → ℕ → ℕ → List ℕ
 fetched new at n = take n (drop at new)
 
 -- how many characters finishing wrote
-abbrev pub written-by : Finished → ℕ
-written-by (Line n) = n
-written-by NoRecord = 0
-written-by NoRoom = 0
+abbrev pub written_by : Finished → ℕ
+written_by (Line n) = n
+written_by NoRecord = 0
+written_by NoRoom = 0
 
 -- A machine after any number of calls, by what they promise: the input taken so far and the lines fetched. `new_machine` comes first; then `feed`,
 -- from any place of a piece into any buffer (a caller hands over again what a call left, or not: what was taken, in order, is the input), or

@@ -1,7 +1,7 @@
 -- The list machine: the text of the record that has begun, what feeding and finishing do with it, and what is kept of it. Assumes nothing.
 use Rattle.std.specs.Prelude.{ℕ, suc, ◌+◌, ◌-◌, cond, List, [], ◌∷◌, ◌++◌, length, get_or, take, replicate, ltb, leb}
 use Rattle.std.proofs.lemmas.List.Edits.{sets}
-use Rattle.unit_lines.specs.Records.{crlf, Split, ending, line_of, lines_of, unless-empty}
+use Rattle.unit_lines.specs.Records.{crlf, Split, ending, line_of, lines_of, unless_empty}
 use Rattle.unit_lines.specs.declared.text.ListMachine.{ListMachine}
 
 abbrev pub last_of : List ℕ → ℕ
@@ -16,13 +16,13 @@ go_on t [] = record { ended = []; rest = t }
 go_on t (c ∷ s) = cond (crlf (last_of t) c) (ending (but_last t) (go_on [] s)) (go_on (t ++ (c ∷ [])) s)
 
 -- how many characters stand before the LF that ends the record, the character before them being p; all of them where none ends it
-unfoldable pub end-in : ℕ → List ℕ → ℕ
-end-in p [] = 0
-end-in p (c ∷ s) = cond (crlf p c) 0 (suc (end-in c s))
+unfoldable pub end_in : ℕ → List ℕ → ℕ
+end_in p [] = 0
+end_in p (c ∷ s) = cond (crlf p c) 0 (suc (end_in c s))
 
 -- 6 and 8 digits, 9 digits with a point and three decimals, 6 digits, three spaces and the line feed
-abbrev pub longest-line : ℕ
-longest-line = 37
+abbrev pub longest_line : ℕ
+longest_line = 37
 
 -- what feeding does: the characters taken, the lines written, the text held after it
 pub record Run : Type 0 where
@@ -40,28 +40,28 @@ after k l r = record { taken = k + r.taken; written = l ++ r.written; held = r.h
 unfoldable pub run : ℕ → List ℕ → List ℕ → Run
 run room t [] = stopped t
 run room t (c ∷ s) =
-    cond (ltb room longest-line) (stopped t)
+    cond (ltb room longest_line) (stopped t)
     (cond (crlf (last_of t) c)
     (after 1 (line_of (but_last t)) (run (room - length (line_of (but_last t))) [] s))
     (after 1 [] (run room (t ++ (c ∷ [])) s)))
 
 -- finishing: the text held is the last record unless it is empty
 unfoldable pub last_line : ℕ → List ℕ → List ℕ
-last_line room t = cond (ltb room longest-line) [] (lines_of (unless-empty t))
+last_line room t = cond (ltb room longest_line) [] (lines_of (unless_empty t))
 
 -- a record of 64 characters and CR LF
-abbrev pub kept-most : ℕ
-kept-most = 66
+abbrev pub kept_most : ℕ
+kept_most = 66
 
 -- of a longer text the first 65 characters and the last are kept: enough to refuse it, and to see that a CR LF ends it
 unfoldable pub shrunk : List ℕ → List ℕ
-shrunk t = cond (leb (length t) kept-most) t (take 65 t ++ (last_of t ∷ []))
+shrunk t = cond (leb (length t) kept_most) t (take 65 t ++ (last_of t ∷ []))
 
 abbrev pub text_of : ListMachine → List ℕ
 text_of m = take m.len m.bytes
 
 abbrev pub no_bytes : List ℕ
-no_bytes = replicate kept-most 0
+no_bytes = replicate kept_most 0
 
 unfoldable pub keep : List ℕ → ListMachine
 keep t = record { bytes = sets no_bytes 0 (shrunk t); len = length (shrunk t) }

@@ -1,6 +1,6 @@
 // What the program writes: the lines of a piece of the input, all of it taken, and at the end the line of a last record.
 ghost use Rattle.std.specs.Prelude.{◌≤◌, length};
-ghost use Rattle.unit_lines.specs.Machine.{longest-line};
+ghost use Rattle.unit_lines.specs.Machine.{longest_line};
 ghost use Rattle.unit_lines.specs.Listing.{room_for, Lists, Rests};
 
 use crate::machine::{Finished, feed, finish};
@@ -26,7 +26,7 @@ pub fn list_piece(m: ListMachine, input: &[u8], out: &mut [u8]) -> Piece
 }
 
 pub fn list_rest(m: ListMachine, out: &mut [u8]) -> usize
-    requires { longest-line ≤ length out.old }
+    requires { longest_line ≤ length out.old }
     ensures { Rests m out.old out.new result }
 {
     let last = finish(m, out, 0);

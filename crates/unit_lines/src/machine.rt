@@ -2,7 +2,7 @@
 ghost use Rattle.std.specs.Prelude.{◌≡◌, [], ◌+◌, ◌-◌, ◌≤◌, ◌<◌, length, drop, leb};
 ghost use Rattle.decimals.specs.Put.{Put};
 ghost use Rattle.unit_lines.specs.Records.{crlf, line_of};
-ghost use Rattle.unit_lines.specs.Machine.{longest-line, but_last, end-in, run, keep, text_of};
+ghost use Rattle.unit_lines.specs.Machine.{longest_line, but_last, end_in, run, keep, text_of};
 ghost use Rattle.unit_lines.specs.Feeding.{Feeds, Finishes, Moves};
 
 use crate::text::{ListMachine, grown, last_of, length_of, no_text};
@@ -26,7 +26,7 @@ fn ends(last: u8, c: u8) -> bool
 // The place of the LF that ends the record, or the input's length. `before` is the character before the place.
 fn find_end(input: &[u8], from: usize, before: u8) -> usize
     requires { from ≤ length input.now }
-    ensures { result ≡ from + end-in before (drop from input.now) }
+    ensures { result ≡ from + end_in before (drop from input.now) }
 {
     let mut last = before;
     let mut i = from;
@@ -42,7 +42,7 @@ fn find_end(input: &[u8], from: usize, before: u8) -> usize
 }
 
 fn has_room(room: usize, at: usize) -> bool
-    ensures { result ≡ leb longest-line (room - at) }
+    ensures { result ≡ leb longest_line (room - at) }
 {
     if room < at {
         return false;
@@ -51,7 +51,7 @@ fn has_room(room: usize, at: usize) -> bool
 }
 
 fn list_text(text: &[u8], out: &mut [u8], at: usize) -> usize
-    requires { at + longest-line ≤ length out.old }
+    requires { at + longest_line ≤ length out.old }
     ensures { Put out.old at (line_of text.now) out.new result }
 {
     put_line(out, at, records_730::read_730(text))
@@ -89,7 +89,7 @@ fn list_whole(input: &[u8], from: usize, out: &mut [u8], at: usize) -> Moved
 
 // The line of the record whose text and CR the machine holds.
 fn list_begun(m: ListMachine, out: &mut [u8], at: usize) -> usize
-    requires { (0 < length (text_of m)) × (at + longest-line ≤ length out.old) }
+    requires { (0 < length (text_of m)) × (at + longest_line ≤ length out.old) }
     ensures { Put out.old at (line_of (but_last (text_of m))) out.new result }
 {
     let len = length_of(m);
@@ -112,7 +112,7 @@ pub fn new_machine() -> ListMachine
 
 // The record that has begun, and then those that lie in the input whole.
 fn feed_on(m: ListMachine, input: &[u8], from: usize, out: &mut [u8], at: usize) -> Fed
-    requires { (from ≤ length input.now) × (longest-line ≤ length out.old - at) }
+    requires { (from ≤ length input.now) × (longest_line ≤ length out.old - at) }
     ensures { Feeds m input.now from out.old at out.new result }
 {
     let e = find_end(input, from, last_of(m));

@@ -1,6 +1,6 @@
 -- What a turn promises: the machine heard what was read and nothing else, and its lines stand in the buffer; or there was nothing to hear. Assumes nothing.
 use Rattle.std.specs.Prelude.{ℕ, ◌≤◌, List, ◌++◌, ◌≡◌, length, take}
-use Rattle.unit_lines.specs.Records.{unit-list}
+use Rattle.unit_lines.specs.Records.{unit_list}
 use Rattle.unit_lines.specs.Listing.{Lists, Listed, fetched}
 use Rattle.unit_lines.specs.declared.text.ListMachine.{ListMachine}
 use Rattle.unit_list.specs.declared.Turn.{Turn}
@@ -22,5 +22,5 @@ pub record Heard (m : ListMachine) : Type 0 where
 -- after a failure nothing is written
 pub record Ends (last : Turn) (new : List ℕ) (n : ℕ) : Type 0 where
   pub inside : n ≤ length new
-  pub complete : last.next ≡ End → (input output : List ℕ) → Listed input output last.machine → output ++ fetched new 0 n ≡ unit-list input
+  pub complete : last.next ≡ End → (input output : List ℕ) → Listed input output last.machine → output ++ fetched new 0 n ≡ unit_list input
   pub nothing : (last.next ≡ End → ⊥) → n ≡ 0

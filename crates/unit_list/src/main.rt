@@ -1,7 +1,7 @@
 // The unit list of document 01: records from standard input, lines to standard output, both in large pieces. All that is decided is decided by
 // unit_lines; here bytes are moved.
 ghost use Rattle.std.specs.Prelude.{◌≤◌, length};
-ghost use Rattle.unit_lines.specs.Machine.{longest-line};
+ghost use Rattle.unit_lines.specs.Machine.{longest_line};
 ghost use Rattle.unit_lines.specs.Listing.{room_for};
 ghost use Rattle.unit_list.specs.Turns.{Turns, Heard, Ends};
 
@@ -102,7 +102,7 @@ fn list_all(input: &mut [u8], out: &mut [u8]) -> Turn
 
 // The line of a last record; after a failure nothing that is unfinished is listed.
 fn list_end(last: Turn, out: &mut [u8]) -> usize
-    requires { longest-line ≤ length out.old }
+    requires { longest_line ≤ length out.old }
     ensures { Ends last out.new result }
 {
     let next = last.next;

@@ -14,27 +14,27 @@ use Rattle.guideline.proofs.Run.{told}
 use Rattle.units.specs.declared.Converted.{Converted}
 use Rattle.units.specs.declared.Converted.TheVariants.{Ratio as Exact, Refused as NotConverted}
 use Rattle.units.specs.Converting.{converted}
-use Rattle.units.proofs.Plan.{same-unit, other-unit}
+use Rattle.units.proofs.Plan.{same_unit, other_unit}
 
-abbrev pub outcome-unit : Converted → Outcome (Unit {0}) Ratio
-outcome-unit (Exact q) = Chosen q
-outcome-unit (NotConverted r) = Refused r tt
+abbrev pub outcome_unit : Converted → Outcome (Unit {0}) Ratio
+outcome_unit (Exact q) = Chosen q
+outcome_unit (NotConverted r) = Refused r tt
 
-pub told-unit : (o : Outcome (Unit {0}) Ratio) {c k : Converted} → c ≡ converted o → c ≡ k → o ≡ outcome-unit k
-told-unit = told converted outcome-unit back
+pub told_unit : (o : Outcome (Unit {0}) Ratio) {c k : Converted} → c ≡ converted o → c ≡ k → o ≡ outcome_unit k
+told_unit = told converted outcome_unit back
   where
-    back : (o : Outcome (Unit {0}) Ratio) → o ≡ outcome-unit (converted o)
+    back : (o : Outcome (Unit {0}) Ratio) → o ≡ outcome_unit (converted o)
     back (Chosen r) = refl
     back (Refused r u) = refl
 
 module _ (t : Table Row730) (p : Prescription) where
-  same-converted : (d d' : Datum → Value) → converted (run d (ratio t p)) ≡ converted (run d' (ratio t p))
-  same-converted d d' = go (eqb p.entered p.base) refl
+  same_converted : (d d' : Datum → Value) → converted (run d (ratio t p)) ≡ converted (run d' (ratio t p))
+  same_converted d d' = go (eqb p.entered p.base) refl
     where
       go : (b : Bool) → eqb p.entered p.base ≡ b → converted (run d (ratio t p)) ≡ converted (run d' (ratio t p))
-      go true h = ap converted (same-unit d t p h ∙ sym (same-unit d' t p h))
-      go false h = other-unit d t p h ∙ sym (other-unit d' t p h)
+      go true h = ap converted (same_unit d t p h ∙ sym (same_unit d' t p h))
+      go false h = other_unit d t p h ∙ sym (other_unit d' t p h)
 
   -- whatever the data are, step 2 comes to the same
-  pub ratio-unasked : (d d' : Datum → Value) → run d (ratio t p) ≡ run d' (ratio t p)
-  ratio-unasked d d' = told-unit (run d (ratio t p)) refl (same-converted d d') ∙ sym (told-unit (run d' (ratio t p)) refl refl)
+  pub ratio_unasked : (d d' : Datum → Value) → run d (ratio t p) ≡ run d' (ratio t p)
+  ratio_unasked d d' = told_unit (run d (ratio t p)) refl (same_converted d d') ∙ sym (told_unit (run d' (ratio t p)) refl refl)

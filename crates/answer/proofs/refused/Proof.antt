@@ -4,7 +4,7 @@ use Rattle.answer.proofs.refused.Statement.{statement}
 use Rattle.answer.proofs.refused.Tie as tie
 
 returns : tie.Need-returns
-returns c = rw (c.answer-of.ensures, c.before.line_of.ensures)
+returns c = rw (c.answer_of.ensures, c.before.line_of.ensures)
 
 pub refused-spec : {M : Type 1} → statement M
 refused-spec = tie.close (tie.spec (λ c κs. search rules) (λ c κs. search rules) returns)

@@ -7,9 +7,9 @@ use mathlib.Core.Logic.{⊎_elim}
 use native.Mathlib.Omega.{arith}
 use lib.ListN.{length}
 use lib.Seq.{length-take-le}
-use Rattle.decimals.proofs.Cases.{lt-or-ge}
-use Rattle.stream.specs.Cases.{entry-count}
-use Rattle.stream.proofs.Inside.{tables-inside}
+use Rattle.decimals.proofs.Cases.{lt_or_ge}
+use Rattle.stream.specs.Cases.{entry_count}
+use Rattle.stream.proofs.Inside.{tables_inside}
 use Rattle.case_lines.proofs.Onward.{test_fits, moves}
 use Rattle.bulk.proofs.answer_case.Statement.{statement}
 use Rattle.bulk.proofs.answer_case.Tie as tie
@@ -24,17 +24,17 @@ used zero = 0
 used (suc n) = 1
 
 turn : {n i j : ℕ} (at : ℕ) → i ≤ j → j < n → (j ≡ i → 0 < at) → 2 * (n - j) + 0 < 2 * (n - i) + used at
-turn {n} {i} {j} zero h k e = ⊎_elim (λ (l : i < j). omega arith) (λ (g : j ≤ i). let z = e (omega arith) in omega arith) (lt-or-ge i j)
+turn {n} {i} {j} zero h k e = ⊎_elim (λ (l : i < j). omega arith) (λ (g : j ≤ i). let z = e (omega arith) in omega arith) (lt_or_ge i j)
 turn {n} {i} {j} (suc at) h k e = omega arith
 
 abbrev invariant-loop : tie.invariant-loop
-invariant-loop form case out₀ at test next₀ end₀ out next end = (next ≤ entry-count case) × (end ≤ length out) × (length out ≡ length out₀)
+invariant-loop form case out₀ at test next₀ end₀ out next end = (next ≤ entry_count case) × (end ≤ length out) × (length out ≡ length out₀)
 
 abbrev decreases-loop : tie.decreases-loop
-decreases-loop form case out₀ at test next₀ end₀ out next end = 2 * (entry-count case - next) + used end
+decreases-loop form case out₀ at test next₀ end₀ out next end = 2 * (entry_count case - next) + used end
 
 test-tables-requires : tie.Need-test-tables-requires invariant-loop decreases-loop
-test-tables-requires c κs = tables-inside c.before.before.args.form c.before.before.args.case.now c.before.before.requires.0.inside
+test-tables-requires c κs = tables_inside c.before.before.args.form c.before.before.args.case.now c.before.before.requires.0.inside
 
 loop-holds : tie.Need-loop-init invariant-loop decreases-loop
 loop-holds c = (omega arith, omega arith, refl)

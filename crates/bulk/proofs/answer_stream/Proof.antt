@@ -4,18 +4,18 @@ use borrow.Author.Rules.{rules}
 use native.Mathlib.Omega.{arith}
 use Rattle.stream.specs.declared.cases.Form.{Form}
 use Rattle.stream.specs.declared.cases.Form.TheVariants.{Single, Range, Ratio}
-use Rattle.entry_lines.specs.Lines.{longest-range}
-use Rattle.case_lines.specs.Lines.{longest-text}
+use Rattle.entry_lines.specs.Lines.{longest_range}
+use Rattle.case_lines.specs.Lines.{longest_text}
 use Rattle.bulk.proofs.answer_stream.Statement.{statement}
 use Rattle.bulk.proofs.answer_stream.Tie as tie
 
-longest-most : (f : Form) → longest-text f ≤ longest-range
-longest-most Single = omega arith
-longest-most Range = omega arith
-longest-most Ratio = omega arith
+longest_most : (f : Form) → longest_text f ≤ longest_range
+longest_most Single = omega arith
+longest_most Range = omega arith
+longest_most Ratio = omega arith
 
 answer-all-requires : tie.Need-answer-all-requires
-answer-all-requires c κs = (search rules, omega (arith, longest-most c.before.before.before.args.form))
+answer-all-requires c κs = (search rules, omega (arith, longest_most c.before.before.before.args.form))
 
 pub answer-stream-spec : {M : Type 1} → statement M
 answer-stream-spec = tie.close (tie.spec (λ c κs. search rules) (λ c. search rules) answer-all-requires (λ c. search rules))

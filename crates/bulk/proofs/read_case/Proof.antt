@@ -9,25 +9,25 @@ use lib.Dec.{eqb}
 use borrow.Rule.Slice.PartMut.{same_len_mid}
 use lib.ListN.{length, take, drop, length-drop}
 use lib.Seq.{length-take-le}
-use Rattle.stream.specs.Cases.{longest-case}
-use Rattle.stream.proofs.Inside.{answer-whole, read-inside}
+use Rattle.stream.specs.Cases.{longest_case}
+use Rattle.stream.proofs.Inside.{answer_whole, read_inside}
 use Rattle.bulk.proofs.read_case.Statement.{statement}
 use Rattle.bulk.proofs.read_case.Tie as tie
 
 -- a turn that finds the end is the last that reads
-abbrev turn-left : Bool → ℕ
-turn-left true = 0
-turn-left false = 1
+abbrev turn_left : Bool → ℕ
+turn_left true = 0
+turn_left false = 1
 
-less : (l have n : ℕ) (ended : Bool) → ended ≡ false → have + n ≤ l → 2 * (l - (have + n)) + turn-left (eqb n 0) < 2 * (l - have) + turn-left ended
+less : (l have n : ℕ) (ended : Bool) → ended ≡ false → have + n ≤ l → 2 * (l - (have + n)) + turn_left (eqb n 0) < 2 * (l - have) + turn_left ended
 less l have zero ended e h = rw e (omega arith)
 less l have (suc n) ended e h = rw (e, ne_eqb (suc n) 0 (λ z. omega arith)) (omega arith)
 
 abbrev invariant-loop : tie.invariant-loop
-invariant-loop form case₀ have₀ ended₀ case have ended = (have ≤ longest-case) × (length case ≡ length case₀)
+invariant-loop form case₀ have₀ ended₀ case have ended = (have ≤ longest_case) × (length case ≡ length case₀)
 
 abbrev decreases-loop : tie.decreases-loop
-decreases-loop form case₀ have₀ ended₀ case have ended = 2 * (longest-case - have) + turn-left ended
+decreases-loop form case₀ have₀ ended₀ case have ended = 2 * (longest_case - have) + turn_left ended
 
 loop-holds : tie.Need-loop-init invariant-loop decreases-loop
 loop-holds c = (search rules, refl)
@@ -42,7 +42,7 @@ same_length : tie.Need-same-length invariant-loop decreases-loop
 same_length c = c.before.before.before.before.loop.invariant.1
 
 returns : tie.Need-returns invariant-loop decreases-loop
-returns c = (omega arith, answer-whole _ _ _ (sym c.before.before.what-next.ensures ∙ c.enum_told.given.1))
+returns c = (omega arith, answer_whole _ _ _ (sym c.before.before.what_next.ensures ∙ c.enum_told.given.1))
 
 same-length-2 : tie.Need-same-length-2 invariant-loop decreases-loop
 same-length-2 c = c.before.before.before.before.loop.invariant.1
@@ -51,11 +51,11 @@ same-length-3 : tie.Need-same-length-3 invariant-loop decreases-loop
 same-length-3 c = c.before.before.before.before.loop.invariant.1
 
 -- what is read stands behind what is there, inside the longest case
-known : (c : tie.After-known-told invariant-loop decreases-loop) → (c.before.before.before.before.before.loop.ended ≡ false) × (c.before.before.before.before.before.loop.have < c.before.next.given.0.0) × (c.before.next.given.0.0 ≤ longest-case)
+known : (c : tie.After-known-told invariant-loop decreases-loop) → (c.before.before.before.before.before.loop.ended ≡ false) × (c.before.before.before.before.before.loop.have < c.before.next.given.0.0) × (c.before.next.given.0.0 ≤ longest_case)
 known c =
     let have = c.before.before.before.before.before.loop.have in
     let case = c.before.before.before.before.before.loop.case in
-    let r = read-inside _ (take have case) c.before.before.before.before.before.loop.ended c.before.next.given.0.0 (sym c.before.before.before.what-next.ensures ∙ c.before.next.given.1) in
+    let r = read_inside _ (take have case) c.before.before.before.before.before.loop.ended c.before.next.given.0.0 (sym c.before.before.before.what_next.ensures ∙ c.before.next.given.1) in
     let l = length-take-le have case (omega arith) in
     (r.0, omega (arith, r.1, l), r.2)
 
@@ -75,7 +75,7 @@ returns-4 : tie.Need-returns-4 invariant-loop decreases-loop
 returns-4 c = tt
 
 -- a piece ends inside what was to be read
-piece_inside : (c : tie.After-struct-known2 invariant-loop decreases-loop) → c.before.before.before.before.before.before.before.before.before.before.before.before.loop.have + c.before.before.before.before.before.read-piece.result.count ≤ longest-case
+piece_inside : (c : tie.After-struct-known2 invariant-loop decreases-loop) → c.before.before.before.before.before.before.before.before.before.before.before.before.loop.have + c.before.before.before.before.before.read-piece.result.count ≤ longest_case
 piece_inside c =
     let k = known c.before.before.before.before.before.before.before in
     let have = c.before.before.before.before.before.before.before.before.before.before.before.before.loop.have in
@@ -88,7 +88,7 @@ add-have : tie.Need-overflow-add-have invariant-loop decreases-loop
 add-have c = let h = piece_inside c in omega arith
 
 loop-less : tie.Need-loop-smaller invariant-loop decreases-loop
-loop-less c = less longest-case c.before.before.before.before.before.before.before.before.before.before.before.before.loop.have c.before.before.before.before.before.read-piece.result.count c.before.before.before.before.before.before.before.before.before.before.before.before.loop.ended (known c.before.before.before.before.before.before.before).0 (piece_inside c)
+loop-less c = less longest_case c.before.before.before.before.before.before.before.before.before.before.before.before.loop.have c.before.before.before.before.before.read-piece.result.count c.before.before.before.before.before.before.before.before.before.before.before.before.loop.ended (known c.before.before.before.before.before.before.before).0 (piece_inside c)
 
 loop-again : tie.Need-loop-preserved invariant-loop decreases-loop
 loop-again c =

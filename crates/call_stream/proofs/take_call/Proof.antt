@@ -2,7 +2,7 @@
 use mathlib.Core.Path.{refl}
 use borrow.Author.Rules.{rules}
 use native.Mathlib.Omega.{arith}
-use Rattle.call_stream.specs.Lines.{broken-line, line_of, after}
+use Rattle.call_stream.specs.Lines.{broken_line, line_of, after}
 use Rattle.call_stream.specs.Takes.{taken}
 use Rattle.call_stream.proofs.Taking.{within, takes}
 use Rattle.call_stream.proofs.take_call.Statement.{statement}
@@ -61,7 +61,7 @@ unfolding taken after line_of
 returns-5 c = takes _ _ _ c.before.before.find.ensures c.enum_told.given.1 _ _ _ _ c.before.before.before.before.before.before.args.at _ (record { bytes = refl; place = omega arith }) (omega arith) refl refl
 
 returns-6 : tie.Need-returns-6
-unfolding taken after line_of broken-line
+unfolding taken after line_of broken_line
 returns-6 c =
     let line = c.before.before.put-text.ensures in
     takes _ _ _ c.before.before.before.before.before.before.before.find.ensures c.before.before.before.before.before.enum-told2.given.1 _ _ _ _ _ _ line (omega (arith, line.place)) refl refl

@@ -5,7 +5,7 @@ use borrow.Author.Rules.{rules}
 use native.Mathlib.Omega.{arith}
 use lib.ListN.{length, take, drop, length-set}
 use lib.Seq.{sets}
-use Rattle.call_stream.proofs.Moving.{move-turn}
+use Rattle.call_stream.proofs.Moving.{move_turn}
 use Rattle.call_stream.proofs.to_front.Statement.{statement}
 use Rattle.call_stream.proofs.to_front.Tie as tie
 
@@ -19,7 +19,7 @@ loop-holds : tie.Need-loop-init invariant-loop decreases-loop
 loop-holds c = (omega arith, refl, refl, refl)
 
 loop-again : tie.Need-loop-preserved invariant-loop decreases-loop
-loop-again c = (omega arith, c.before.before.loop.invariant.1, simp length-set (omega arith), move-turn _ _ c.before.before.before.args.from c.before.before.loop.i (omega arith) c.before.before.loop.invariant.3 _ _ (omega arith) (omega arith))
+loop-again c = (omega arith, c.before.before.loop.invariant.1, simp length-set (omega arith), move_turn _ _ c.before.before.before.args.from c.before.before.loop.i (omega arith) c.before.before.loop.invariant.3 _ _ (omega arith) (omega arith))
 
 same_length : tie.Need-same-length invariant-loop decreases-loop
 same_length c = c.before.loop.invariant.2

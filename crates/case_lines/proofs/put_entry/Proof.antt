@@ -1,9 +1,9 @@
 -- Each form has its lines. Assumes nothing.
 use Prim.Native.Nat.{◌≤◌}
 use borrow.Author.Rules.{rules}
-use Rattle.stream.specs.Cases.{entry-count, most-places, wanted-of, lendable}
-use Rattle.stream.proofs.Lists.{list-lendable}
-use Rattle.case_lines.proofs.Tables.{single-lines, range-lines-of, ratio-lines}
+use Rattle.stream.specs.Cases.{entry_count, most_places, wanted_of, lendable}
+use Rattle.stream.proofs.Lists.{list_lendable}
+use Rattle.case_lines.proofs.Tables.{single_lines, range_lines_of, ratio_lines}
 use Rattle.case_lines.proofs.put_entry.Statement.{statement}
 use Rattle.case_lines.proofs.put_entry.Tie as tie
 
@@ -21,12 +21,12 @@ wanted-of-requires c κs =
     (rw c.enum-told2.given.1 at pre.0.inside, pre.1)
 
 -- a case that wants a longer list is not answered
-short : (c : tie.After-put-arg2) → c.before.wanted-of.result.places ≤ most-places
+short : (c : tie.After-put-arg2) → c.before.wanted_of.result.places ≤ most_places
 unfolding lendable
 short c =
     let a = c.before.before.before.before.before.before.before.before.before.before.before.before.before.before.args in
     let pre = c.before.before.before.before.before.before.before.before.before.before.before.before.before.before.requires in
-    rw c.before.wanted-of.ensures (list-lendable a.case.now (entry-count a.case.now) a.i pre.1 (rw c.before.before.enum-told2.given.1 at pre.0.lists))
+    rw c.before.wanted_of.ensures (list_lendable a.case.now (entry_count a.case.now) a.i pre.1 (rw c.before.before.enum-told2.given.1 at pre.0.lists))
 
 put-requires-2 : tie.Need-put-requires-2
 put-requires-2 c κs =
@@ -42,21 +42,21 @@ returns : tie.Need-returns
 returns c =
     let a = c.before.before.before.before.before.before.before.before.before.before.before.before.before.before.before.before.args in
     let form = c.before.before.before.before.enum_told.given.1 in
-    let lines = single-lines a.form a.case.now a.i form c.before.before.before.before.before.before.before.before.before.before.before.before.before.before.before.before.requires.3 c.before.before.before.before.before.before.entry.ensures in
+    let lines = single_lines a.form a.case.now a.i form c.before.before.before.before.before.before.before.before.before.before.before.before.before.before.before.before.requires.3 c.before.before.before.before.before.before.entry.ensures in
     (rw lines at c.before.before.put.ensures.0, rw form c.before.before.put.ensures.1)
 
 returns-2 : tie.Need-returns-2
 returns-2 c =
     let a = c.before.before.before.before.before.before.before.before.before.before.before.before.before.before.before.before.before.args in
     let form = c.before.before.before.before.before.enum-told2.given.1 in
-    let lines = range-lines-of a.form a.case.now a.i form c.before.before.before.before.before.before.before.before.before.before.before.before.before.before.before.before.before.requires.3 c.before.before.before.before.before.before.before.entry.ensures c.before.before.before.before.wanted-of.ensures in
+    let lines = range_lines_of a.form a.case.now a.i form c.before.before.before.before.before.before.before.before.before.before.before.before.before.before.before.before.before.requires.3 c.before.before.before.before.before.before.before.entry.ensures c.before.before.before.before.wanted_of.ensures in
     (rw lines at c.before.before.put2.ensures.0, rw form c.before.before.put2.ensures.1)
 
 returns-3 : tie.Need-returns-3
 returns-3 c =
     let a = c.before.before.before.before.before.before.before.before.before.before.before.before.before.before.before.before.args in
     let form = c.before.before.before.before.enum-told3.given.1 in
-    let lines = ratio-lines a.form a.case.now a.i form c.before.before.before.before.before.before.before.before.before.before.before.before.before.before.before.before.requires.3 c.before.before.before.before.before.before.entry.ensures in
+    let lines = ratio_lines a.form a.case.now a.i form c.before.before.before.before.before.before.before.before.before.before.before.before.before.before.before.before.requires.3 c.before.before.before.before.before.before.entry.ensures in
     (rw lines at c.before.before.put3.ensures.0, rw form c.before.before.put3.ensures.1)
 
 pub put-entry-spec : {M : Type 1} → statement M

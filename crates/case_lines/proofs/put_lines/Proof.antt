@@ -6,8 +6,8 @@ use mathlib.Core.Path.{◌≡◌, refl, sym, ◌∙◌}
 use native.Mathlib.Omega.{arith}
 use lib.ListN.{length}
 use Rattle.decimals.specs.Put.{Put}
-use Rattle.stream.specs.Cases.{entry-count}
-use Rattle.stream.proofs.Inside.{front-inside, tables-inside}
+use Rattle.stream.specs.Cases.{entry_count}
+use Rattle.stream.proofs.Inside.{front_inside, tables_inside}
 use Rattle.case_lines.specs.Lines.{lines_from}
 use Rattle.case_lines.proofs.Onward.{no_line, one_more}
 use Rattle.case_lines.proofs.put_lines.Statement.{statement}
@@ -23,7 +23,7 @@ decreases-loop f case t t640 t641 t642 t643 t649 t730 t070 from out₀ at n long
 entry-count-requires : tie.Need-entry-count-requires invariant-loop decreases-loop
 entry-count-requires c κs =
     let a = c.before.before.before.before.before.before.before.before.before.args in
-    front-inside a.case.now (tables-inside a.f a.case.now c.before.before.before.before.before.before.before.before.before.requires.0.whole.inside)
+    front_inside a.case.now (tables_inside a.f a.case.now c.before.before.before.before.before.before.before.before.before.requires.0.whole.inside)
 
 loop-holds : tie.Need-loop-init invariant-loop decreases-loop
 loop-holds c =
@@ -40,21 +40,21 @@ same_length c = c.before.before.loop.invariant.3
 returns : tie.Need-returns invariant-loop decreases-loop
 returns c =
     let inv = c.before.before.loop.invariant in
-    let n = c.before.before.before.before.entry-count.ensures.0 in
+    let n = c.before.before.before.before.entry_count.ensures.0 in
     let longest = c.before.before.before.longest.ensures in
     record {
       onward = inv.0;
       inside = omega arith;
       text = inv.4;
       fits = inv.2;
-      left = sym (lt-ltb c.before.before.loop.i (entry-count c.before.before.before.before.before.before.before.before.before.before.before.before.before.before.args.case.now) (omega arith));
+      left = sym (lt-ltb c.before.before.loop.i (entry_count c.before.before.before.before.before.before.before.before.before.before.before.before.before.before.args.case.now) (omega arith));
       full = λ _. omega arith;
     }
 
 put-entry-requires : tie.Need-put-entry-requires invariant-loop decreases-loop
 put-entry-requires c κs =
     let ready = c.before.before.before.before.before.before.before.before.before.before.before.before.before.before.before.requires.0 in
-    (ready.whole, omega (arith, c.before.before.before.before.before.entry-count.ensures.0, c.before.before.loop-test.true), ready.tested, c.before.before.before.before.before.before.before.before.before.before.before.before.before.before.before.requires.1, omega (arith, c.before.if1.false, c.before.before.before.before.longest.ensures))
+    (ready.whole, omega (arith, c.before.before.before.before.before.entry_count.ensures.0, c.before.before.loop-test.true), ready.tested, c.before.before.before.before.before.before.before.before.before.before.before.before.before.before.before.requires.1, omega (arith, c.before.if1.false, c.before.before.before.before.longest.ensures))
 
 add-i : tie.Need-overflow-add-i invariant-loop decreases-loop
 add-i c = omega (arith, c.before.before.before.before.before.loop-test.true)
@@ -75,13 +75,13 @@ same-length-2 c = c.before.loop.invariant.3
 returns-2 : tie.Need-returns-2 invariant-loop decreases-loop
 returns-2 c =
     let inv = c.before.loop.invariant in
-    let n = c.before.before.before.entry-count.ensures.0 in
+    let n = c.before.before.before.entry_count.ensures.0 in
     record {
       onward = inv.0;
       inside = omega arith;
       text = inv.4;
       fits = inv.2;
-      left = sym (le-ltb c.before.loop.i (entry-count c.before.before.before.before.before.before.before.before.before.before.before.before.before.args.case.now) (omega arith));
+      left = sym (le-ltb c.before.loop.i (entry_count c.before.before.before.before.before.before.before.before.before.before.before.before.before.args.case.now) (omega arith));
       full = λ h. omega arith;
     }
 

@@ -1,11 +1,11 @@
 -- The length over the bytes of a row is the number of rows. Assumes nothing.
 use borrow.Author.Rules.{rules}
-use Rattle.cells.proofs.Lents.{width_some, width-most}
+use Rattle.cells.proofs.Lents.{width_some, width_most}
 use Rattle.cells.proofs.by_rows.Statement.{statement}
 use Rattle.cells.proofs.by_rows.Tie as tie
 
 mul-rows : tie.Need-overflow-mul-t5
-mul-rows c = let h = width-most c.before.before.args.n in search (h, rules)
+mul-rows c = let h = width_most c.before.before.args.n in search (h, rules)
 
 div-rows : tie.Need-nonzero-div-t6
 div-rows c = let h = width_some c.before.before.args.n in search (h, rules)

@@ -5,7 +5,7 @@ use native.Mathlib.Omega.{arith}
 use borrow.Author.Rules.{rules}
 use lib.ListN.{length}
 use Rattle.decimals.specs.Decimal.{decimal}
-use Rattle.decimals.proofs.Decimal.{decimal-one, length-decimal-more, decimal-least, decimal-64}
+use Rattle.decimals.proofs.Decimal.{decimal_one, length_decimal_more, decimal_least, decimal_64}
 use Rattle.decimals.proofs.places.Statement.{statement}
 use Rattle.decimals.proofs.places.Tie as tie
 
@@ -19,17 +19,17 @@ loop-holds : tie.Need-loop-init invariant-loop decreases-loop
 loop-holds c = (search rules, omega arith)
 
 add-k : tie.Need-overflow-add-k invariant-loop decreases-loop
-add-k c = omega (arith, decimal-64 c.before.before.args.n (search rules), decimal-least c.before.loop.rest)
+add-k c = omega (arith, decimal_64 c.before.before.args.n (search rules), decimal_least c.before.loop.rest)
 
 loop-less : tie.Need-loop-smaller invariant-loop decreases-loop
 loop-less c = search rules
 
 loop-again : tie.Need-loop-preserved invariant-loop decreases-loop
-loop-again c = (search rules, omega (arith, length-decimal-more c.before.loop.rest c.loop-test.true))
+loop-again c = (search rules, omega (arith, length_decimal_more c.before.loop.rest c.loop-test.true))
 
 returns : tie.Need-returns invariant-loop decreases-loop
 returns c =
-    let e : length (decimal c.before.loop.rest) ≡ 1 = ap length (decimal-one c.before.loop.rest (omega arith)) in
+    let e : length (decimal c.before.loop.rest) ≡ 1 = ap length (decimal_one c.before.loop.rest (omega arith)) in
     omega arith
 
 pub places-spec : {M : Type 1} → statement M

@@ -6,8 +6,8 @@ use borrow.Author.Rules.{rules}
 use lib.ListN.{length, length-set}
 use lib.Seq.{sets}
 use Rattle.decimals.specs.Decimal.{decimal}
-use Rattle.decimals.proofs.Decimal.{decimal-one, length-decimal-more, decimal-least}
-use Rattle.decimals.proofs.Puts.{decimal-turn}
+use Rattle.decimals.proofs.Decimal.{decimal_one, length_decimal_more, decimal_least}
+use Rattle.decimals.proofs.Puts.{decimal_turn}
 use Rattle.decimals.proofs.put_decimal.Statement.{statement}
 use Rattle.decimals.proofs.put_decimal.Tie as tie
 
@@ -28,7 +28,7 @@ loop-holds : tie.Need-loop-init invariant-loop decreases-loop
 loop-holds c = (rw c.places.ensures, search rules, refl, refl)
 
 sub-left : tie.Need-overflow-sub-left invariant-loop decreases-loop
-sub-left c = omega (arith, decimal-least c.before.loop.rest)
+sub-left c = omega (arith, decimal_least c.before.loop.rest)
 
 cast-out : tie.Need-overflow-cast-out invariant-loop decreases-loop
 cast-out c = search rules
@@ -37,16 +37,16 @@ add-out : tie.Need-overflow-add-out invariant-loop decreases-loop
 add-out c = search rules
 
 slice-write-out : tie.Need-slice-write-out invariant-loop decreases-loop
-slice-write-out c = omega (arith, decimal-least c.before.loop.rest)
+slice-write-out c = omega (arith, decimal_least c.before.loop.rest)
 
 loop-less : tie.Need-loop-smaller invariant-loop decreases-loop
 loop-less c = search rules
 
 loop-again : tie.Need-loop-preserved invariant-loop decreases-loop
 loop-again c =
-    let e = length-decimal-more c.before.loop.rest c.loop-test.true in
+    let e = length_decimal_more c.before.loop.rest c.loop-test.true in
     let f : c.before.loop.left - 1 ≡ c.before.before.before.before.args.at + length (decimal (c.before.loop.rest / 10)) = omega arith in
-    (f, search rules, simp length-set (omega arith), rw f (sym (decimal-turn _ _ _ c.loop-test.true) ∙ c.before.loop.invariant.3))
+    (f, search rules, simp length-set (omega arith), rw f (sym (decimal_turn _ _ _ c.loop-test.true) ∙ c.before.loop.invariant.3))
 
 cast-out-2 : tie.Need-overflow-cast-out-2 invariant-loop decreases-loop
 cast-out-2 c = search rules
@@ -55,14 +55,14 @@ add-out-2 : tie.Need-overflow-add-out-2 invariant-loop decreases-loop
 add-out-2 c = search rules
 
 slice-write-out-2 : tie.Need-slice-write-out-2 invariant-loop decreases-loop
-slice-write-out-2 c = omega (arith, decimal-least c.before.loop.rest)
+slice-write-out-2 c = omega (arith, decimal_least c.before.loop.rest)
 
 same_length : tie.Need-same-length invariant-loop decreases-loop
 same_length c = search rules
 
 returns : tie.Need-returns invariant-loop decreases-loop
 returns c =
-    let e = decimal-one c.before.loop.rest (omega arith) in
+    let e = decimal_one c.before.loop.rest (omega arith) in
     record { bytes = rw e at c.before.loop.invariant.3; place = rw c.before.before.places.ensures }
 
 pub put-decimal-spec : {M : Type 1} → statement M

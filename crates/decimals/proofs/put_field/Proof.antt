@@ -2,19 +2,19 @@ use mathlib.Core.Path.{refl}
 use native.Mathlib.Omega.{arith}
 use borrow.Author.Rules.{rules}
 use Rattle.decimals.specs.Decimal.{field}
-use Rattle.decimals.proofs.Decimal.{length-field}
+use Rattle.decimals.proofs.Decimal.{length_field}
 use Rattle.decimals.proofs.Puts.{put_on}
 use Rattle.decimals.proofs.put_field.Statement.{statement}
 use Rattle.decimals.proofs.put_field.Tie as tie
 
 put-decimal-requires : tie.Need-put-decimal-requires
-put-decimal-requires c κs = omega (arith, length-field c.before.before.args.n c.before.before.args.behind)
+put-decimal-requires c κs = omega (arith, length_field c.before.before.args.n c.before.before.args.behind)
 
 slice-write-out : tie.Need-slice-write-out
-slice-write-out c = omega (arith, length-field c.before.before.before.before.before.args.n c.before.before.before.before.before.args.behind)
+slice-write-out c = omega (arith, length_field c.before.before.before.before.before.args.n c.before.before.before.before.before.args.behind)
 
 add-result : tie.Need-overflow-add-result
-add-result c = omega (arith, length-field c.before.before.before.before.before.args.n c.before.before.before.before.before.args.behind)
+add-result c = omega (arith, length_field c.before.before.before.before.before.args.n c.before.before.before.before.before.args.behind)
 
 returns : tie.Need-returns
 unfolding field

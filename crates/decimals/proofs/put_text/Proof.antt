@@ -4,7 +4,7 @@ use native.Mathlib.Omega.{arith}
 use borrow.Author.Rules.{rules}
 use lib.ListN.{length, take, length-set}
 use lib.Seq.{sets, take_all}
-use Rattle.decimals.proofs.Puts.{sets-next}
+use Rattle.decimals.proofs.Puts.{sets_next}
 use Rattle.decimals.proofs.put_text.Statement.{statement}
 use Rattle.decimals.proofs.put_text.Tie as tie
 
@@ -33,7 +33,7 @@ loop-less : tie.Need-loop-smaller invariant-loop decreases-loop
 loop-less c = search rules
 
 loop-again : tie.Need-loop-preserved invariant-loop decreases-loop
-loop-again c = (search rules, simp length-set (omega arith), rw c.before.before.loop.invariant.2 (sets-next _ _ _ _ c.before.loop-test.true))
+loop-again c = (search rules, simp length-set (omega arith), rw c.before.before.loop.invariant.2 (sets_next _ _ _ _ c.before.loop-test.true))
 
 add-result : tie.Need-overflow-add-result invariant-loop decreases-loop
 add-result c = search rules

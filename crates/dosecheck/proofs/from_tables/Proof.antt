@@ -4,27 +4,27 @@ use mathlib.Core.Path.{◌≡◌, sym, ◌∙◌, ap, ap₂}
 use Rattle.guideline.specs.declared.answer.Reached.{Reached}
 use Rattle.guideline.specs.declared.entries.Entry.{Entry}
 use Rattle.guideline.specs.declared.rows.TableName.TheVariants.{T640, T641, T642, T643, T649, T730, T070}
-use Rattle.guideline.specs.Ask.{Outcome, ◌>>◌, after, no-data}
+use Rattle.guideline.specs.Ask.{Outcome, ◌>>◌, after, no_data}
 use Rattle.guideline.specs.Bytes.{Lents, lents, spelled}
-use Rattle.guideline.specs.Steps.{sound, nothing, before-step-2}
-use Rattle.guideline.specs.Check.{up-to-step-2, from-step-2, answer, refused}
-use Rattle.guideline.proofs.Run.{step-refused, step-chosen}
+use Rattle.guideline.specs.Steps.{sound, nothing, before_step_2}
+use Rattle.guideline.specs.Check.{up_to_step_2, from_step_2, answer, refused}
+use Rattle.guideline.proofs.Run.{step_refused, step_chosen}
 use Rattle.cells.specs.Lents.{shown}
 use Rattle.keys.specs.declared.seen.AllSeen.{AllSeen}
 use Rattle.keys.specs.Seen.{Sees, all_seen}
-use Rattle.ranges.specs.Soundly.{ending_of, outcome-of}
-use Rattle.ranges.proofs.Soundly.{sound-run, sound-passed, sound-seen, all_sound, refused-failed}
+use Rattle.ranges.specs.Soundly.{ending_of, outcome_of}
+use Rattle.ranges.proofs.Soundly.{sound_run, sound_passed, sound_seen, all_sound, refused_failed}
 use Rattle.dosecheck.proofs.Linked.{linked}
 use Rattle.dosecheck.proofs.from_tables.Statement.{statement}
 use Rattle.dosecheck.proofs.from_tables.Tie as tie
 
 -- what was seen of the tables, table by table
-all-sees : (b : Lents) {w : AllSeen} → w ≡ all_seen b → Sees T640 (b T640) w.t640 × Sees T641 (b T641) w.t641 × Sees T642 (b T642) w.t642 × Sees T643 (b T643) w.t643 × Sees T649 (b T649) w.t649 × Sees T730 (b T730) w.t730 × Sees T070 (b T070) w.t070
-all-sees b e =
+all_sees : (b : Lents) {w : AllSeen} → w ≡ all_seen b → Sees T640 (b T640) w.t640 × Sees T641 (b T641) w.t641 × Sees T642 (b T642) w.t642 × Sees T643 (b T643) w.t643 × Sees T649 (b T649) w.t649 × Sees T730 (b T730) w.t730 × Sees T070 (b T070) w.t070
+all_sees b e =
     (record { same = ap (λ (x : AllSeen). x.t640) e }, record { same = ap (λ (x : AllSeen). x.t641) e }, record { same = ap (λ (x : AllSeen). x.t642) e }, record { same = ap (λ (x : AllSeen). x.t643) e }, record { same = ap (λ (x : AllSeen). x.t649) e }, record { same = ap (λ (x : AllSeen). x.t730) e }, record { same = ap (λ (x : AllSeen). x.t070) e })
 
 returns : tie.Need-returns
-unfolding up-to-step-2 before-step-2 ◌>>◌
+unfolding up_to_step_2 before_step_2 ◌>>◌
 returns c =
     let at-nothing = c.before in
     let at-ending = at-nothing.before in
@@ -35,7 +35,7 @@ returns c =
     let t = spelled b in
     c.refused.ensures
     ∙ ap₂ refused (at-ending.refusal.ensures ∙ ap ending_of at_told.enum_told.given.1) at-nothing.nothing.ensures
-    ∙ sym (ap (λ (o : Outcome Reached Entry). answer (after o (from-step-2 t))) (step-refused no-data nothing (sound t) _ (sound-run no-data t ∙ ap outcome-of (refused-failed b at-start.pre.0 at_told.enum_told.given.1))))
+    ∙ sym (ap (λ (o : Outcome Reached Entry). answer (after o (from_step_2 t))) (step_refused no_data nothing (sound t) _ (sound_run no_data t ∙ ap outcome_of (refused_failed b at-start.pre.0 at_told.enum_told.given.1))))
 
 from-filling-requires : tie.Need-from-filling-requires
 unfolding spelled shown
@@ -45,20 +45,20 @@ from-filling-requires c κs =
     let a = at-start.args in
     let b = lents a.t640.now a.t641.now a.t642.now a.t643.now a.t649.now a.t730.now a.t070.now in
     let told = at-sound.s.given.1 in
-    let see = all-sees b (sound-seen b at-start.pre.0 told) in
+    let see = all_sees b (sound_seen b at-start.pre.0 told) in
     (at-start.pre.1, all_sound b at-start.pre.0 told T649, all_sound b at-start.pre.0 told T070, see.0, see.1, see.2, see.3, see.4, see.5, see.6)
 
 returns-2 : tie.Need-returns-2
-unfolding up-to-step-2 before-step-2 ◌>>◌ spelled shown
+unfolding up_to_step_2 before_step_2 ◌>>◌ spelled shown
 returns-2 c =
     let at-sound = c.before.before in
     let at-start = at-sound.before.before.before.before.before.before.before.before.before in
     let a = at-start.args in
     let b = lents a.t640.now a.t641.now a.t642.now a.t643.now a.t649.now a.t730.now a.t070.now in
     let t = spelled b in
-    c.from-filling.ensures
+    c.from_filling.ensures
     ∙ ap answer (linked t a.e)
-    ∙ sym (ap (λ (o : Outcome Reached Entry). answer (after o (from-step-2 t))) (step-chosen no-data nothing (sound t) _ (sound-run no-data t ∙ ap outcome-of (sound-passed b at-start.pre.0 at-sound.s.given.1))))
+    ∙ sym (ap (λ (o : Outcome Reached Entry). answer (after o (from_step_2 t))) (step_chosen no_data nothing (sound t) _ (sound_run no_data t ∙ ap outcome_of (sound_passed b at-start.pre.0 at-sound.s.given.1))))
 
 pub from-tables-spec : {M : Type 1} → statement M
 from-tables-spec = tie.close (tie.spec (λ c. search rules) (λ c. search rules) (λ c κs. search rules) (λ c κs. search rules) (λ c κs. search rules) returns from-filling-requires returns-2)

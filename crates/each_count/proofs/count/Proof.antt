@@ -4,7 +4,7 @@ use borrow.Author.Rules.{rules}
 use borrow.Author.Tests.{lt-ltb, le-ltb}
 use mathlib.Core.Path.{◌≡◌, refl}
 use native.Mathlib.Omega.{arith}
-use Rattle.guideline.specs.Counts.{most-counts, counts-in, counted}
+use Rattle.guideline.specs.Counts.{most_counts, counts_in, counted}
 use Rattle.each_count.proofs.count.Statement.{statement}
 use Rattle.each_count.proofs.count.Tie as tie
 
@@ -13,22 +13,22 @@ unfolding counted
 returns c =
     let a = c.before.before.args in
     let more = le-ltb a.last a.first (omega arith) in
-    rw (more, lt-ltb most-counts (counts-in a.first a.last) (omega arith)) refl
+    rw (more, lt-ltb most_counts (counts_in a.first a.last) (omega arith)) refl
 
 returns-2 : tie.Need-returns-2
 unfolding counted
 returns-2 c =
     let a = c.before.before.before.args in
     let more = le-ltb a.last a.first (omega arith) in
-    rw (more, le-ltb most-counts (counts-in a.first a.last) (omega arith), lt-ltb a.places (counts-in a.first a.last) (omega arith)) refl
+    rw (more, le-ltb most_counts (counts_in a.first a.last) (omega arith), lt-ltb a.places (counts_in a.first a.last) (omega arith)) refl
 
 returns-3 : tie.Need-returns-3
 unfolding counted
 returns-3 c =
     let a = c.before.before.before.args in
     let more = le-ltb a.last a.first (omega arith) in
-    let n : counts-in a.first a.last ≡ a.last - a.first + 1 = omega arith in
-    rw (more, le-ltb most-counts (counts-in a.first a.last) (omega arith), le-ltb a.places (counts-in a.first a.last) (omega arith), n) refl
+    let n : counts_in a.first a.last ≡ a.last - a.first + 1 = omega arith in
+    rw (more, le-ltb most_counts (counts_in a.first a.last) (omega arith), le-ltb a.places (counts_in a.first a.last) (omega arith), n) refl
 
 returns-4 : tie.Need-returns-4
 unfolding counted

@@ -5,7 +5,7 @@ use native.Mathlib.Omega.{arith}
 use borrow.Author.Rules.{rules}
 use lib.ListN.{length, take, length-set}
 use lib.Seq.{sets, take_all}
-use Rattle.decimals.proofs.Puts.{sets-next}
+use Rattle.decimals.proofs.Puts.{sets_next}
 use Rattle.each_count.proofs.put_numbers.Statement.{statement}
 use Rattle.each_count.proofs.put_numbers.Tie as tie
 
@@ -19,7 +19,7 @@ loop-holds : tie.Need-loop-init invariant-loop decreases-loop
 loop-holds c = (search rules, refl, refl)
 
 loop-again : tie.Need-loop-preserved invariant-loop decreases-loop
-loop-again c = (search rules, simp length-set (omega arith), rw c.before.before.loop.invariant.2 (sets-next _ _ _ _ c.before.loop-test.true))
+loop-again c = (search rules, simp length-set (omega arith), rw c.before.before.loop.invariant.2 (sets_next _ _ _ _ c.before.loop-test.true))
 
 same_length : tie.Need-same-length invariant-loop decreases-loop
 same_length c = c.before.loop.invariant.1

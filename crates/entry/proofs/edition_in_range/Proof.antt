@@ -1,11 +1,11 @@
 -- Assumes nothing.
 use borrow.Author.Rules.{rules}
-use Rattle.guideline.specs.Entries.{edition-in-range}
+use Rattle.guideline.specs.Entries.{edition_in_range}
 use Rattle.entry.proofs.edition_in_range.Statement.{statement}
 use Rattle.entry.proofs.edition_in_range.Tie as tie
 
 returns : tie.Need-returns
-unfolding edition-in-range
+unfolding edition_in_range
 returns c = rw (c.holds.ensures, c.before.editions.ensures)
 
 pub edition-in-range-spec : {M : Type 1} → statement M

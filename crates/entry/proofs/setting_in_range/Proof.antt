@@ -1,11 +1,11 @@
 -- Each field is tested against its range. Assumes nothing.
 use borrow.Author.Rules.{rules}
-use Rattle.guideline.specs.Entries.{setting-in-range}
+use Rattle.guideline.specs.Entries.{setting_in_range}
 use Rattle.entry.proofs.setting_in_range.Statement.{statement}
 use Rattle.entry.proofs.setting_in_range.Tie as tie
 
 returns : tie.Need-returns
-unfolding setting-in-range
+unfolding setting_in_range
 returns c =
     let c1 = c.before in
     let c2 = c1.before in
@@ -16,7 +16,7 @@ returns c =
     let c7 = c6.before in
     let c8 = c7.before in
     let c9 = c8.before in
-    rw (c.both3.ensures, c1.both2.ensures, c2.holds3.ensures, c3.codes2.ensures, c4.holds2.ensures, c5.care-groups.ensures, c6.both.ensures, c7.holds.ensures, c8.codes.ensures, c9.icpcto-in-range.ensures)
+    rw (c.both3.ensures, c1.both2.ensures, c2.holds3.ensures, c3.codes2.ensures, c4.holds2.ensures, c5.care_groups.ensures, c6.both.ensures, c7.holds.ensures, c8.codes.ensures, c9.icpcto_in_range.ensures)
 
 pub setting-in-range-spec : {M : Type 1} → statement M
 setting-in-range-spec = tie.close (tie.spec (λ c κs. search rules) (λ c κs. search rules) (λ c κs. search rules) (λ c κs. search rules) (λ c κs. search rules) (λ c κs. search rules) (λ c κs. search rules) (λ c κs. search rules) (λ c κs. search rules) (λ c κs. search rules) returns)

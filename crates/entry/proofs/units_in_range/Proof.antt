@@ -1,11 +1,11 @@
 -- Each field is tested against its range. Assumes nothing.
 use borrow.Author.Rules.{rules}
-use Rattle.guideline.specs.Entries.{units-in-range}
+use Rattle.guideline.specs.Entries.{units_in_range}
 use Rattle.entry.proofs.units_in_range.Statement.{statement}
 use Rattle.entry.proofs.units_in_range.Tie as tie
 
 returns : tie.Need-returns
-unfolding units-in-range
+unfolding units_in_range
 returns c =
     let c1 = c.before in
     let c2 = c1.before in

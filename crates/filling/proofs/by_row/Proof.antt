@@ -12,7 +12,7 @@ returns c = rw (sym c.before.agrees.ensures ∙ not-true _ c.if1.true)
 
 returns-2 : tie.Need-returns-2
 unfolding by_row
-returns-2 c = let at-if = c.before in rw (sym at-if.before.agrees.ensures ∙ not-false _ at-if.if1.false, c.filled-by.ensures)
+returns-2 c = let at-if = c.before in rw (sym at-if.before.agrees.ensures ∙ not-false _ at-if.if1.false, c.filled_by.ensures)
 
 pub by-row-spec : {M : Type 1} → statement M
 by-row-spec = tie.close (tie.spec (λ c κs. search rules) returns (λ c κs. search rules) returns-2)

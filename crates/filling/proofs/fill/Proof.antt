@@ -5,14 +5,14 @@ use Rattle.guideline.specs.declared.rows.TableName.TheVariants.{T070}
 use Rattle.cells.specs.Lents.{rows}
 use Rattle.tables.specs.declared.t070.Found070.{Found070}
 use Rattle.filling.specs.Fills.{by_rows}
-use Rattle.filling.proofs.Comes.{without-hpk, with-hpk}
+use Rattle.filling.proofs.Comes.{without_hpk, with_hpk}
 use Rattle.filling.proofs.fill.Statement.{statement}
 use Rattle.filling.proofs.fill.Tie as tie
 
 returns : tie.Need-returns
 returns c =
     let a = c.before.before.before.before.args in
-    sym (without-hpk (rows T070 a.t070.now) a.e c.enum_told.given.1)
+    sym (without_hpk (rows T070 a.t070.now) a.e c.enum_told.given.1)
 
 returns-2 : tie.Need-returns-2
 returns-2 c =
@@ -21,7 +21,7 @@ returns-2 c =
     let a = at-hpk.before.before.before.before.args in
     c.by_rows.ensures
     ∙ ap (λ (f : Found070). by_rows f a.e) at-ask.ask.ensures
-    ∙ sym (with-hpk (rows T070 a.t070.now) a.e _ at-hpk.hpk.given.1)
+    ∙ sym (with_hpk (rows T070 a.t070.now) a.e _ at-hpk.hpk.given.1)
 
 pub fill_spec : {M : Type 1} → statement M
 fill_spec = tie.close (tie.spec (λ c. search rules) (λ c. search rules) returns (λ c κs. search rules) (λ c κs. search rules) returns-2)

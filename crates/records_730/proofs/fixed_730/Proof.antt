@@ -6,7 +6,7 @@ use borrow.Author.Tests.{not-true, not-false}
 use Rattle.records.specs.Ascii.{ascii, spaces}
 use Rattle.records.specs.Digits.{chars, same}
 use Rattle.records.specs.Layout.{every}
-use Rattle.records.proofs.Bools.{and-true}
+use Rattle.records.proofs.Bools.{and_true}
 use Rattle.records_730.proofs.fixed_730.Statement.{statement}
 use Rattle.records_730.proofs.fixed_730.Tie as tie
 
@@ -42,7 +42,7 @@ returns-4 c =
     let thsrtc : same (ascii "1850") (chars s 5 4) ≡ true = sym c.before.before.before.before.before.before.is-text2.ensures ∙ not-false _ c.before.before.before.before.before.if2.false in
     let tseenh : same (ascii "0002") (chars s 35 4) ≡ true = sym c.before.before.before.is-text3.ensures ∙ not-false _ c.before.before.if3.false in
     let empty : c.is-text4.result ≡ same (spaces 19) (chars s 45 19) = c.is-text4.ensures in
-    rw (bstnum, thsrtc, tseenh, empty) (and-true _)
+    rw (bstnum, thsrtc, tseenh, empty) (and_true _)
 
 pub fixed-730-spec : {M : Type 1} → statement M
 fixed-730-spec =

@@ -6,25 +6,25 @@ use borrow.Author.Rules.{rules}
 use borrow.Author.Tests.{le-leb, lt-leb}
 use native.Mathlib.Omega.{arith}
 use Rattle.records.specs.Layout.{Values, read_by}
-use Rattle.records_730.specs.File730.{layout-730, record-730}
-use Rattle.records.proofs.Fields.{here, here-mutation, later, no-digits, Fields, Below, fields-below, high_digit, all_read}
+use Rattle.records_730.specs.File730.{layout_730, record_730}
+use Rattle.records.proofs.Fields.{here, here_mutation, later, no_digits, Fields, Below, fields_below, high_digit, all_read}
 use Rattle.records_730.proofs.numbers_730.Statement.{statement}
 use Rattle.records_730.proofs.numbers_730.Tie as tie
 
 returns : tie.Need-returns
-returns c = ap (read_by record-730) (no-digits layout-730 _ (later (here-mutation (sym c.before.before.number_at.ensures ∙ c.enum_told.given.1))))
+returns c = ap (read_by record_730) (no_digits layout_730 _ (later (here_mutation (sym c.before.before.number_at.ensures ∙ c.enum_told.given.1))))
 
 returns-2 : tie.Need-returns-2
-returns-2 c = ap (read_by record-730) (no-digits layout-730 _ (later (later (later (here (sym c.before.before.number-at2.ensures ∙ c.enum-told2.given.1))))))
+returns-2 c = ap (read_by record_730) (no_digits layout_730 _ (later (later (later (here (sym c.before.before.number-at2.ensures ∙ c.enum-told2.given.1))))))
 
 returns-3 : tie.Need-returns-3
-returns-3 c = ap (read_by record-730) (no-digits layout-730 _ (later (later (later (later (here (sym c.before.before.number-at3.ensures ∙ c.enum-told3.given.1)))))))
+returns-3 c = ap (read_by record_730) (no_digits layout_730 _ (later (later (later (later (here (sym c.before.before.number-at3.ensures ∙ c.enum-told3.given.1)))))))
 
 returns-4 : tie.Need-returns-4
-returns-4 c = ap (read_by record-730) (no-digits layout-730 _ (later (later (later (later (later (here (sym c.before.before.number-at4.ensures ∙ c.enum-told4.given.1))))))))
+returns-4 c = ap (read_by record_730) (no_digits layout_730 _ (later (later (later (later (later (here (sym c.before.before.number-at4.ensures ∙ c.enum-told4.given.1))))))))
 
 returns-5 : tie.Need-returns-5
-returns-5 c = ap (read_by record-730) (no-digits layout-730 _ (later (later (later (later (later (later (later (here (sym c.before.before.number-at5.ensures ∙ c.enum-told5.given.1))))))))))
+returns-5 c = ap (read_by record_730) (no_digits layout_730 _ (later (later (later (later (later (later (later (here (sym c.before.before.number-at5.ensures ∙ c.enum-told5.given.1))))))))))
 
 -- where each field was read, from the last back to the first
 abbrev cdhoev-at : tie.After-known-told5 → tie.After-known-told4
@@ -42,20 +42,20 @@ mutation-at c = (srtcde-at c).before.before.before.before
 abbrev slice : tie.After-known-told5 → List ℕ
 slice c = (mutation-at c).before.before.before.before.before.args.s.now
 
-abbrev read : tie.After-known-told5 → Values layout-730
+abbrev read : tie.After-known-told5 → Values layout_730
 read c = (tt, ((mutation-at c).before.mutation.given.0.0, (tt, ((srtcde-at c).before.srtcde.given.0.0, ((code_at c).before.code.given.0.0, ((cdhoev-at c).before.cdhoev.given.0.0, (tt, (c.before.cdeenh.given.0.0, (tt, tt)))))))))
 
-fields : (c : tie.After-known-told5) → Fields layout-730 0 (slice c) (read c)
+fields : (c : tie.After-known-told5) → Fields layout_730 0 (slice c) (read c)
 fields c = (sym (mutation-at c).before.before.before.number_at.ensures ∙ (mutation-at c).before.mutation.given.1, (sym (srtcde-at c).before.before.before.number-at2.ensures ∙ (srtcde-at c).before.srtcde.given.1, (sym (code_at c).before.before.before.number-at3.ensures ∙ (code_at c).before.code.given.1, (sym (cdhoev-at c).before.before.before.number-at4.ensures ∙ (cdhoev-at c).before.cdhoev.given.1, (sym c.before.before.before.number-at5.ensures ∙ c.before.cdeenh.given.1, tt)))))
 
-below : (c : tie.After-known-told5) → Below layout-730 (read c)
-below c = fields-below layout-730 0 (slice c) (read c) (fields c) (omega (arith, (mutation-at c).before.before.before.before.before.requires))
+below : (c : tie.After-known-told5) → Below layout_730 (read c)
+below c = fields_below layout_730 0 (slice c) (read c) (fields c) (omega (arith, (mutation-at c).before.before.before.before.before.requires))
 
 returns-6 : tie.Need-returns-6
-returns-6 c = ap (read_by record-730) (high_digit layout-730 _ _ (fields c.before) (rw (lt-leb (mutation-at c.before).before.mutation.given.0.0 3 (omega arith))))
+returns-6 c = ap (read_by record_730) (high_digit layout_730 _ _ (fields c.before) (rw (lt-leb (mutation-at c.before).before.mutation.given.0.0 3 (omega arith))))
 
 returns-7 : tie.Need-returns-7
-returns-7 c = ap (read_by record-730) (all_read layout-730 _ _ (fields c.before) (rw (le-leb (mutation-at c.before).before.mutation.given.0.0 3 (omega arith))))
+returns-7 c = ap (read_by record_730) (all_read layout_730 _ _ (fields c.before) (rw (le-leb (mutation-at c.before).before.mutation.given.0.0 3 (omega arith))))
 
 pub numbers-730-spec : {M : Type 1} → statement M
 numbers-730-spec =

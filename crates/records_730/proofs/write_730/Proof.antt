@@ -5,28 +5,28 @@ use borrow.Author.Rules.{rules}
 use borrow.Author.Tests.{not-true, not-false, leb-true}
 use native.Mathlib.Omega.{arith}
 use lib.ListN.{length}
-use Rattle.records_730.specs.File730.{file-730}
+use Rattle.records_730.specs.File730.{file_730}
 use Rattle.records.proofs.Steps.{too_wide, no_room, done}
 use Rattle.records_730.proofs.write_730.Statement.{statement}
 use Rattle.records_730.proofs.write_730.Tie as tie
 
 returns : tie.Need-returns
-unfolding file-730
-returns c = too_wide file-730 _ _ _ (sym c.before.before.fits-729.ensures ∙ not-true _ c.if1.true)
+unfolding file_730
+returns c = too_wide file_730 _ _ _ (sym c.before.before.fits-729.ensures ∙ not-true _ c.if1.true)
 
 returns-2 : tie.Need-returns-2
-unfolding file-730
-returns-2 c = no_room file-730 _ _ _ (sym c.before.before.before.fits-729.ensures ∙ not-false _ c.before.if1.false) (sym c.before.before.has_room.ensures ∙ not-true _ c.if2.true)
+unfolding file_730
+returns-2 c = no_room file_730 _ _ _ (sym c.before.before.before.fits-729.ensures ∙ not-false _ c.before.if1.false) (sym c.before.before.has_room.ensures ∙ not-true _ c.if2.true)
 
 room : (c : tie.Else2) → c.before.before.before.before.before.args.at + 64 ≤ length c.before.before.before.before.before.args.buf.now
 room c = leb-true _ _ (sym c.before.before.has_room.ensures ∙ not-false _ c.if2.false)
 
 returns-3 : tie.Need-returns-3
-unfolding file-730
+unfolding file_730
 returns-3 c =
     let d = c.before.before.before.before.before.before.before.before in
     rw (c.before.before.put_back.ensures, c.before.before.before.before.before.before.put_front.ensures)
-    (done file-730 _ _ _ (sym d.before.before.before.fits-729.ensures ∙ not-false _ d.before.if1.false) (sym d.before.before.has_room.ensures ∙ not-false _ d.if2.false))
+    (done file_730 _ _ _ (sym d.before.before.before.fits-729.ensures ∙ not-false _ d.before.if1.false) (sym d.before.before.has_room.ensures ∙ not-false _ d.if2.false))
 
 pub write-730-spec : {M : Type 1} → statement M
 write-730-spec =

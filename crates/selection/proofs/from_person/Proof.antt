@@ -4,9 +4,9 @@ use mathlib.Core.Path.{sym, ◌∙◌, ap, ap₂}
 use Rattle.guideline.specs.Entries.{datum}
 use Rattle.guideline.specs.Ask.{run}
 use Rattle.guideline.specs.Steps.{person, nothing}
-use Rattle.guideline.proofs.Run.{step-refused, step-chosen}
-use Rattle.selection.specs.Chosen.{refusal-age}
-use Rattle.selection.proofs.Told.{told-age}
+use Rattle.guideline.proofs.Run.{step_refused, step_chosen}
+use Rattle.selection.specs.Chosen.{refusal_age}
+use Rattle.selection.proofs.Told.{told_age}
 use Rattle.selection.specs.Selecting.{selected}
 use Rattle.selection.specs.declared.Selection.TheVariants.{Refused}
 use Rattle.selection.proofs.from_person.Statement.{statement}
@@ -20,8 +20,8 @@ returns c =
     let a = at-step.before.before.before.before.before.args in
     let d = datum a.d in
     let p = person a.product in
-    let no = told-age (run d p) at-step.person.ensures at_told.enum_told.given.1 in
-    ap₂ Refused (at-refusal.refusal.ensures ∙ ap refusal-age at_told.enum_told.given.1) c.nothing.ensures ∙ sym (ap selected (step-refused d nothing p _ no))
+    let no = told_age (run d p) at-step.person.ensures at_told.enum_told.given.1 in
+    ap₂ Refused (at-refusal.refusal.ensures ∙ ap refusal_age at_told.enum_told.given.1) c.nothing.ensures ∙ sym (ap selected (step_refused d nothing p _ no))
 
 returns-2 : tie.Need-returns-2
 returns-2 c =
@@ -30,8 +30,8 @@ returns-2 c =
     let a = at-step.before.before.before.before.before.args in
     let d = datum a.d in
     let p = person a.product in
-    let yes = told-age (run d p) at-step.person.ensures at_row.step.given.1 in
-    c.from-level.ensures ∙ sym (ap selected (step-chosen d nothing p _ yes))
+    let yes = told_age (run d p) at-step.person.ensures at_row.step.given.1 in
+    c.from_level.ensures ∙ sym (ap selected (step_chosen d nothing p _ yes))
 
 pub from-person-spec : {M : Type 1} → statement M
 from-person-spec = tie.close (tie.spec (λ c κs. search rules) (λ c. search rules) (λ c. search rules) (λ c κs. search rules) (λ c κs. search rules) returns (λ c κs. search rules) returns-2)

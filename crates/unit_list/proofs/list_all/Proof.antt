@@ -5,7 +5,7 @@ use lib.ListN.{length}
 use lib.Seq.{length-take-le}
 use borrow.Author.Rules.{rules}
 use Rattle.unit_list.specs.Turns.{Heard}
-use Rattle.unit_list.proofs.Turned.{turn_inside, heard-nothing, turn-heard}
+use Rattle.unit_list.proofs.Turned.{turn_inside, heard_nothing, turn_heard}
 use Rattle.unit_list.proofs.list_all.Statement.{statement}
 use Rattle.unit_list.proofs.list_all.Tie as tie
 
@@ -25,7 +25,7 @@ slice-aggregate-put-out : tie.Need-slice-aggregate-put-out invariant-loop decrea
 slice-aggregate-put-out c = sym (length-take-le _ _ (omega (arith, turn_inside c.before.before.before.before.before.before.read-piece.ensures, c.before.before.before.before.before.before.read-piece.auto.1.1.0)))
 
 loop-again : tie.Need-loop-preserved invariant-loop decreases-loop
-loop-again c = (c.before.before.before.before.before.before.before.before.before.before.read-piece.auto.1.0 ∙ c.before.before.before.before.before.before.before.before.before.before.before.before.before.before.loop.invariant.0, c.before.before.before.before.before.before.before.before.before.before.read-piece.auto.1.1.0 ∙ c.before.before.before.before.before.before.before.before.before.before.before.before.before.before.loop.invariant.1, turn-heard c.before.before.before.before.before.before.before.before.before.before.before.before.before.before.loop.invariant.2 c.before.before.before.before.before.before.before.before.before.before.read-piece.ensures)
+loop-again c = (c.before.before.before.before.before.before.before.before.before.before.read-piece.auto.1.0 ∙ c.before.before.before.before.before.before.before.before.before.before.before.before.before.before.loop.invariant.0, c.before.before.before.before.before.before.before.before.before.before.read-piece.auto.1.1.0 ∙ c.before.before.before.before.before.before.before.before.before.before.before.before.before.before.loop.invariant.1, turn_heard c.before.before.before.before.before.before.before.before.before.before.before.before.before.before.loop.invariant.2 c.before.before.before.before.before.before.before.before.before.before.read-piece.ensures)
 
 pub list-all-spec : {M : Type 1} → statement M
 list-all-spec =
@@ -34,7 +34,7 @@ list-all-spec =
     invariant-loop
     decreases-loop
     (λ c κs. search rules)
-    (λ c. (refl, refl, heard-nothing c.new-machine.ensures))
+    (λ c. (refl, refl, heard_nothing c.new-machine.ensures))
     (λ c. omega arith)
     read-piece-requires
     slice-reshare-prefix-put-out
@@ -42,13 +42,13 @@ list-all-spec =
     (λ c κs. search rules)
     (λ c. c.before.before.before.before.before.before.before.before.read-piece.auto.1.0 ∙ c.before.before.before.before.before.before.before.before.before.before.before.before.loop.invariant.0)
     (λ c. c.before.before.before.before.before.before.before.before.read-piece.auto.1.1.0 ∙ c.before.before.before.before.before.before.before.before.before.before.before.before.loop.invariant.1)
-    (λ c. turn-heard c.before.before.before.before.before.before.before.before.before.before.before.before.loop.invariant.2 c.before.before.before.before.before.before.before.before.read-piece.ensures)
+    (λ c. turn_heard c.before.before.before.before.before.before.before.before.before.before.before.before.loop.invariant.2 c.before.before.before.before.before.before.before.before.read-piece.ensures)
     (λ c. search rules)
     (λ c. omega arith)
     loop-again
     (λ c. c.before.before.before.before.before.before.before.before.before.read-piece.auto.1.0 ∙ c.before.before.before.before.before.before.before.before.before.before.before.before.before.loop.invariant.0)
     (λ c. c.before.before.before.before.before.before.before.before.before.read-piece.auto.1.1.0 ∙ c.before.before.before.before.before.before.before.before.before.before.before.before.before.loop.invariant.1)
-    (λ c. turn-heard c.before.before.before.before.before.before.before.before.before.before.before.before.before.loop.invariant.2 c.before.before.before.before.before.before.before.before.before.read-piece.ensures)
+    (λ c. turn_heard c.before.before.before.before.before.before.before.before.before.before.before.before.before.loop.invariant.2 c.before.before.before.before.before.before.before.before.before.read-piece.ensures)
     (λ c. c.before.loop.invariant.0)
     (λ c. c.before.loop.invariant.1)
     (λ c. c.before.loop.invariant.2))

@@ -1,18 +1,18 @@
 -- What the look-up took goes on, what it refused is handed on. Assumes nothing.
 use borrow.Author.Rules.{rules}
-use Rattle.units.specs.Converting.{by-entered}
+use Rattle.units.specs.Converting.{by_entered}
 use Rattle.units.proofs.by_entered.Statement.{statement}
 use Rattle.units.proofs.by_entered.Tie as tie
 
 returns : tie.Need-returns
-unfolding by-entered
+unfolding by_entered
 returns c =
     let at_told = c.before in
     let at_take = at_told.before.before in
     rw (c.hand_on.ensures, ← at_take.take.ensures, at_told.enum_told.given.1)
 
 returns-2 : tie.Need-returns-2
-unfolding by-entered
+unfolding by_entered
 returns-2 c =
     let at_row = c.before.before in
     let at_take = at_row.before.before in

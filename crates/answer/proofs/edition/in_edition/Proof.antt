@@ -1,16 +1,16 @@
 -- Assumes nothing.
 use borrow.Author.Rules.{rules}
 use borrow.Author.Tests.{eq-eqb, ne_eqb}
-use Rattle.guideline.specs.Edition.{in-edition}
+use Rattle.guideline.specs.Edition.{in_edition}
 use Rattle.answer.proofs.edition.in_edition.Statement.{statement}
 use Rattle.answer.proofs.edition.in_edition.Tie as tie
 
 returns : tie.Need-returns
-unfolding in-edition
-returns c = rw (eq-eqb _ _ c.before.if1.true) c.in-former.ensures
+unfolding in_edition
+returns c = rw (eq-eqb _ _ c.before.if1.true) c.in_former.ensures
 
 returns-2 : tie.Need-returns-2
-unfolding in-edition
+unfolding in_edition
 returns-2 c = rw (ne_eqb _ _ c.if1.false)
 
 pub in-edition-spec : {M : Type 1} → statement M

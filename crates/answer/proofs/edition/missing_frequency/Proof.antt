@@ -1,11 +1,11 @@
 -- Assumes nothing.
 use borrow.Author.Rules.{rules}
-use Rattle.guideline.specs.Edition.{missing-frequency}
+use Rattle.guideline.specs.Edition.{missing_frequency}
 use Rattle.answer.proofs.edition.missing_frequency.Statement.{statement}
 use Rattle.answer.proofs.edition.missing_frequency.Tie as tie
 
 returns : tie.Need-returns
-unfolding missing-frequency
+unfolding missing_frequency
 returns c = rw (c.holds.ensures, c.before.signals.ensures)
 
 pub missing-frequency-spec : {M : Type 1} → statement M

@@ -2,9 +2,9 @@
 use mathlib.Core.Path.{◌∙◌}
 use borrow.Author.Rules.{rules}
 use native.Mathlib.Omega.{arith}
-use Rattle.records_070.specs.File070.{file-070}
-use Rattle.call_lines.specs.Lines.{front-070}
-use Rattle.call_lines.proofs.Parts.{line-left, call-left}
+use Rattle.records_070.specs.File070.{file_070}
+use Rattle.call_lines.specs.Lines.{front_070}
+use Rattle.call_lines.proofs.Parts.{line_left, call_left}
 use Rattle.call_lines.proofs.file_070.put_write_070.Statement.{statement}
 use Rattle.call_lines.proofs.file_070.put_write_070.Tie as tie
 
@@ -12,13 +12,13 @@ returns : tie.Need-returns
 returns c =
     let s = c.before.before.before.before.before.before.before.before.before.before.before.before.before.before.before.before.before.args.s.now in
     let n = c.before.before.before.before.before.before.before.before.before.before.before.before.before.before.before.before.before.args.n in
-    let record_is = c.before.before.before.before.before.before.before.before.before.before.before.before.before.record-070.ensures in
+    let record_is = c.before.before.before.before.before.before.before.before.before.before.before.before.before.record_070.ensures in
     let place_is = c.before.before.before.before.before.before.before.before.before.before.before.long.ensures in
-    let w = c.before.before.before.before.before.before.before.before.before.write-070 in
+    let w = c.before.before.before.before.before.before.before.before.before.write_070 in
     let shown = c.before.before.Put-written.ensures in (
-      rw (line-left file-070 front-070 s n (omega arith) _ _ _ _ record_is place_is _ (c.before.before.before.before.before.write-number.ensures ∙ w.ensures.0) w.ensures.1 w.auto.0) at shown.0,
+      rw (line_left file_070 front_070 s n (omega arith) _ _ _ _ record_is place_is _ (c.before.before.before.before.before.write_number.ensures ∙ w.ensures.0) w.ensures.1 w.auto.0) at shown.0,
       shown.1,
-      call-left file-070 front-070 s n (omega arith) _ _ _ _ record_is place_is w.ensures.1,
+      call_left file_070 front_070 s n (omega arith) _ _ _ _ record_is place_is w.ensures.1,
     )
 
 pub put-write-070-spec : {M : Type 1} → statement M

@@ -6,7 +6,7 @@ use native.Mathlib.Omega.{arith}
 use lib.ListN.{length, drop, length-set}
 use lib.Seq.{sets}
 use Rattle.call_lines.specs.Lines.{hex}
-use Rattle.call_lines.proofs.Lining.{hex-turn, hex-end}
+use Rattle.call_lines.proofs.Lining.{hex_turn, hex_end}
 use Rattle.call_lines.proofs.hex.put_hex.Statement.{statement}
 use Rattle.call_lines.proofs.hex.put_hex.Tie as tie
 
@@ -27,13 +27,13 @@ slice-write-out-2 c = simp length-set (omega arith)
 
 loop-again : tie.Need-loop-preserved invariant-loop decreases-loop
 loop-again c =
-    (omega arith, omega arith, simp length-set (omega arith), hex-turn _ _ _ _ _ _ c.before.before.before.loop-test.true c.before.hex-digit.ensures c.hex-digit2.ensures ∙ c.before.before.before.before.loop.invariant.3)
+    (omega arith, omega arith, simp length-set (omega arith), hex_turn _ _ _ _ _ _ c.before.before.before.loop-test.true c.before.hex_digit.ensures c.hex-digit2.ensures ∙ c.before.before.before.before.loop.invariant.3)
 
 same_length : tie.Need-same-length invariant-loop decreases-loop
 same_length c = c.before.loop.invariant.2
 
 returns : tie.Need-returns invariant-loop decreases-loop
-returns c = hex-end _ _ _ _ _ _ c.before.loop.invariant.0 (omega arith) c.before.loop.invariant.1 c.before.loop.invariant.3
+returns c = hex_end _ _ _ _ _ _ c.before.loop.invariant.0 (omega arith) c.before.loop.invariant.1 c.before.loop.invariant.3
 
 pub put-hex-spec : {M : Type 1} → statement M
 put-hex-spec =

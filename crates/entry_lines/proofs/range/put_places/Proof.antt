@@ -5,23 +5,23 @@ use mathlib.Core.Path.{◌≡◌, refl, ◌∙◌}
 use native.Mathlib.Omega.{arith}
 use lib.ListN.{length, take, drop}
 use Rattle.decimals.specs.Put.{Put}
-use Rattle.guideline.specs.Check.{answer-length}
-use Rattle.guideline.specs.Counts.{in-turn, numbers-at}
-use Rattle.stream.specs.Lines.{line, longest-line}
-use Rattle.entry_lines.proofs.Places.{part-long, place-put}
+use Rattle.guideline.specs.Check.{answer_length}
+use Rattle.guideline.specs.Counts.{in_turn, numbers_at}
+use Rattle.stream.specs.Lines.{line, longest_line}
+use Rattle.entry_lines.proofs.Places.{part_long, place_put}
 use Rattle.entry_lines.proofs.Turns.{put_next}
 use Rattle.entry_lines.proofs.range.put_places.Statement.{statement}
 use Rattle.entry_lines.proofs.range.put_places.Tie as tie
 
 abbrev invariant-loop : tie.invariant-loop
 invariant-loop list n out₀ at end₀ i₀ out end i =
-    (i ≤ n) × (length out ≡ length out₀) × (end ≤ at + i * longest-line) × Put out₀ at (in-turn (λ k. line (numbers-at k list)) i) out end
+    (i ≤ n) × (length out ≡ length out₀) × (end ≤ at + i * longest_line) × Put out₀ at (in_turn (λ k. line (numbers_at k list)) i) out end
 
 abbrev decreases-loop : tie.decreases-loop
 decreases-loop list n out₀ at end₀ i₀ out end i = n - i
 
 loop-holds : tie.Need-loop-init invariant-loop decreases-loop
-unfolding in-turn
+unfolding in_turn
 loop-holds c = (search rules, refl, search rules, record { bytes = refl; place = omega arith })
 
 mul-from : tie.Need-overflow-mul-from invariant-loop decreases-loop
@@ -40,7 +40,7 @@ put-numbers-requires : tie.Need-put-numbers-requires invariant-loop decreases-lo
 put-numbers-requires c κs =
     let list = c.before.before.before.before.before.before.args.list.now in
     let i = c.before.before.before.loop.i in
-    let long : length (take (i * answer-length + answer-length - i * answer-length) (drop (i * answer-length) list)) ≡ answer-length = part-long list i (i * answer-length) (i * answer-length + answer-length - i * answer-length) refl (omega arith) (omega (arith, c.before.before.before.before.before.before.requires.0, c.before.before.loop-test.true)) in
+    let long : length (take (i * answer_length + answer_length - i * answer_length) (drop (i * answer_length) list)) ≡ answer_length = part_long list i (i * answer_length) (i * answer_length + answer_length - i * answer_length) refl (omega arith) (omega (arith, c.before.before.before.before.before.before.requires.0, c.before.before.loop-test.true)) in
     omega (arith, c.before.before.before.before.before.before.requires.1, c.before.before.before.loop.invariant.1, c.before.before.before.loop.invariant.2, c.before.before.loop-test.true)
 
 add-i : tie.Need-overflow-add-i invariant-loop decreases-loop
@@ -53,10 +53,10 @@ loop-again : tie.Need-loop-preserved invariant-loop decreases-loop
 loop-again c =
     let list = c.before.before.before.before.before.before.before.before.before.args.list.now in
     let i = c.before.before.before.before.before.before.loop.i in
-    let long : length (take (i * answer-length + answer-length - i * answer-length) (drop (i * answer-length) list)) ≡ answer-length = part-long list i (i * answer-length) (i * answer-length + answer-length - i * answer-length) refl (omega arith) (omega (arith, c.before.before.before.before.before.before.before.before.before.requires.0, c.before.before.before.before.before.loop-test.true)) in
+    let long : length (take (i * answer_length + answer_length - i * answer_length) (drop (i * answer_length) list)) ≡ answer_length = part_long list i (i * answer_length) (i * answer_length + answer_length - i * answer_length) refl (omega arith) (omega (arith, c.before.before.before.before.before.before.before.before.before.requires.0, c.before.before.before.before.before.loop-test.true)) in
     let inv = c.before.before.before.before.before.before.loop.invariant in
     let put = c.before.before.put-numbers.ensures in
-    (omega (arith, c.before.before.before.before.before.loop-test.true), c.before.before.put-numbers.auto.1.0 ∙ inv.1, omega (arith, put.1, inv.2), put_next (λ k. line (numbers-at k list)) _ _ _ _ _ _ i (i + 1) inv.3 (place-put list i (i * answer-length) (i * answer-length + answer-length - i * answer-length) put.0 refl (omega arith)) refl)
+    (omega (arith, c.before.before.before.before.before.loop-test.true), c.before.before.put-numbers.auto.1.0 ∙ inv.1, omega (arith, put.1, inv.2), put_next (λ k. line (numbers_at k list)) _ _ _ _ _ _ i (i + 1) inv.3 (place_put list i (i * answer_length) (i * answer_length + answer_length - i * answer_length) put.0 refl (omega arith)) refl)
 
 same_length : tie.Need-same-length invariant-loop decreases-loop
 same_length c = c.before.loop.invariant.1

@@ -6,7 +6,7 @@ use mathlib.Core.Path.{ap}
 use native.Mathlib.Omega.{arith}
 use Rattle.guideline.specs.declared.answer.Answer.{Answer}
 use Rattle.guideline.specs.Order.{line as line-of-order}
-use Rattle.stream.proofs.InLine.{line-of-these}
+use Rattle.stream.proofs.InLine.{line_of_these}
 use Rattle.entry_lines.proofs.ratio.put_converted.Statement.{statement}
 use Rattle.entry_lines.proofs.ratio.put_converted.Tie as tie
 
@@ -17,7 +17,7 @@ returns-2 : tie.Need-returns-2
 returns-2 c =
     let why = c.before.before.before.before.before.before.before.before.c2.given in
     let a = c.before.before.before.before.before.refused.ensures in
-    (rw why.1 (line-of-these _ ((line-of-order why.0.0).answer ∷ []) c.before.before.put-numbers.ensures.0 (ap (λ (x : Answer). x.answer ∷ []) a)), omega (arith, c.before.before.put-numbers.ensures.1))
+    (rw why.1 (line_of_these _ ((line-of-order why.0.0).answer ∷ []) c.before.before.put-numbers.ensures.0 (ap (λ (x : Answer). x.answer ∷ []) a)), omega (arith, c.before.before.put-numbers.ensures.1))
 
 pub put-converted-spec : {M : Type 1} → statement M
 put-converted-spec =

@@ -1,11 +1,11 @@
 -- The line of the answer. Assumes nothing.
 use borrow.Author.Rules.{rules}
-use Rattle.entry_lines.specs.Lines.{answer-line}
+use Rattle.entry_lines.specs.Lines.{answer_line}
 use Rattle.entry_lines.proofs.single.put.Statement.{statement}
 use Rattle.entry_lines.proofs.single.put.Tie as tie
 
 returns : tie.Need-returns
-unfolding answer-line
+unfolding answer_line
 returns c = rw c.before.before.before.before.answer.ensures at c.before.before.put-line.ensures
 
 pub put_spec : {M : Type 1} → statement M

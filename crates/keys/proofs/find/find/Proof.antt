@@ -1,13 +1,13 @@
 -- Either way it is the stretch. Assumes nothing.
 use mathlib.Core.Path.{sym, ◌∙◌}
-use Rattle.keys.proofs.RisingKeys.{rises-rising}
+use Rattle.keys.proofs.RisingKeys.{rises_rising}
 use Rattle.keys.proofs.find.find.Statement.{statement}
 use Rattle.keys.proofs.find.find.Tie as tie
 
 halved-requires : tie.Need-halved-requires
 halved-requires c κs =
     let at-start = c.before.before in
-    (at-start.requires.0, rises-rising _ _ (sym at-start.requires.1 ∙ c.if1.true))
+    (at-start.requires.0, rises_rising _ _ (sym at-start.requires.1 ∙ c.if1.true))
 
 stretch-requires : tie.Need-stretch-requires
 stretch-requires c κs = c.before.before.requires.0

@@ -4,7 +4,7 @@ use Prim.Native.Nat.{◌+◌, ◌-◌, ◌/◌}
 use native.Mathlib.Omega.{arith}
 use Rattle.keys.specs.Keys.{key_of}
 use Rattle.keys.specs.Rising.{Between}
-use Rattle.keys.proofs.RisingKeys.{upper-half, lower-half}
+use Rattle.keys.proofs.RisingKeys.{upper_half, lower_half}
 use Rattle.keys.proofs.halved.from.Statement.{statement}
 use Rattle.keys.proofs.halved.from.Tie as tie
 
@@ -34,13 +34,13 @@ loop-again : tie.Need-loop-preserved invariant-loop decreases-loop
 loop-again c =
     let s = c.before.before.before.before.before in
     let k = c.before.before.before.loop in
-    upper-half s.requires.1 k.invariant (k.a + (k.b - k.a) / 2) (omega arith) (rw (← c.before.cell.ensures) c.if1.true)
+    upper_half s.requires.1 k.invariant (k.a + (k.b - k.a) / 2) (omega arith) (rw (← c.before.cell.ensures) c.if1.true)
 
 loop-again-2 : tie.Need-loop-preserved-2 invariant-loop decreases-loop
 loop-again-2 c =
     let s = c.before.before.before.before.before in
     let k = c.before.before.before.loop in
-    lower-half s.requires.1 k.invariant (k.a + (k.b - k.a) / 2) (omega arith) (omega arith) (rw (← c.before.cell.ensures) c.if1.false)
+    lower_half s.requires.1 k.invariant (k.a + (k.b - k.a) / 2) (omega arith) (omega arith) (rw (← c.before.cell.ensures) c.if1.false)
 
 returns : tie.Need-returns invariant-loop decreases-loop
 returns c =

@@ -2,16 +2,16 @@
 use borrow.Author.Rules.{rules}
 use Prim.Native.Nat.{◌-◌}
 use native.Mathlib.Omega.{arith}
-use Rattle.cells.proofs.Views.{narrowed-first}
-use Rattle.keys.proofs.RisingKeys.{from-order, from_key, from-before, from-after}
+use Rattle.cells.proofs.Views.{narrowed_first}
+use Rattle.keys.proofs.RisingKeys.{from_order, from_key, from_before, from_after}
 use Rattle.keys.proofs.halved.halved.Statement.{statement}
 use Rattle.keys.proofs.halved.halved.Tie as tie
 
 narrow-requires : tie.Need-narrow-requires
 narrow-requires c κs =
     let s = c.before.before.before in
-    let h = narrowed-first c.before.from.result c.before.from.ensures.0 s.requires.0 in
-    (from-order (omega arith) c.before.from.ensures c.from2.ensures, omega arith)
+    let h = narrowed_first c.before.from.result c.before.from.ensures.0 s.requires.0 in
+    (from_order (omega arith) c.before.from.ensures c.from2.ensures, omega arith)
 
 returns : tie.Need-returns
 returns c =
@@ -20,10 +20,10 @@ returns c =
     record {
       from = a.result;
       to = b.result;
-      order = from-order (omega arith) a.ensures b.ensures;
+      order = from_order (omega arith) a.ensures b.ensures;
       most = b.ensures.0;
-      before = from-before (omega arith) a.ensures b.ensures;
-      after = from-after (omega arith) a.ensures b.ensures;
+      before = from_before (omega arith) a.ensures b.ensures;
+      after = from_after (omega arith) a.ensures b.ensures;
       first = λ some. from_key (omega arith) a.ensures b.ensures a.result (omega arith) some;
       last = λ some. from_key (omega arith) a.ensures b.ensures (b.result - 1) (omega arith) (omega arith);
       cut = c.narrow.ensures;

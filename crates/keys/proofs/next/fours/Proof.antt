@@ -3,7 +3,7 @@ use borrow.Author.Rules.{rules}
 use Prim.Native.Nat.{◌+◌, ◌-◌, ◌≤◌}
 use native.Mathlib.Omega.{arith}
 use Rattle.keys.specs.Keys.{key_of, Without}
-use Rattle.keys.proofs.Without.{without-none, without-four, without-both}
+use Rattle.keys.proofs.Without.{without_none, without_four, without_both}
 use Rattle.keys.proofs.next.fours.Statement.{statement}
 use Rattle.keys.proofs.next.fours.Tie as tie
 
@@ -16,7 +16,7 @@ decreases-loop t v k key from rows i₀ i = rows - i
 loop-holds : tie.Need-loop-init invariant-loop decreases-loop
 loop-holds c =
     let a = c.before.args in
-    (omega arith, c.before.requires.1, without-none (key_of a.t.now a.v a.k) a.key a.from)
+    (omega arith, c.before.requires.1, without_none (key_of a.t.now a.v a.k) a.key a.from)
 
 in-four-requires : tie.Need-in-four-requires invariant-loop decreases-loop
 in-four-requires c κs = (c.before.before.before.requires.0, omega arith)
@@ -32,7 +32,7 @@ loop-again c =
     let a = c.before.before.before.before.before.args in
     let f = key_of a.t.now a.v a.k in
     let i = c.before.before.before.loop.i in
-    (omega arith, omega arith, without-both f a.key a.from i (i + 4) c.before.before.before.loop.invariant.2 (without-four f a.key i (rw (← c.before.in_four.ensures) c.if1.false)))
+    (omega arith, omega arith, without_both f a.key a.from i (i + 4) c.before.before.before.loop.invariant.2 (without_four f a.key i (rw (← c.before.in_four.ensures) c.if1.false)))
 
 returns-2 : tie.Need-returns-2 invariant-loop decreases-loop
 returns-2 c = c.before.loop.invariant

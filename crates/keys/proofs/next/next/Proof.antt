@@ -4,7 +4,7 @@ use Prim.Native.Nat.{◌+◌, ◌-◌, ◌≤◌}
 use mathlib.Core.Path.{sym, ◌∙◌}
 use native.Mathlib.Omega.{arith}
 use Rattle.keys.specs.Keys.{key_of, Without}
-use Rattle.keys.proofs.Without.{without-one, without-both}
+use Rattle.keys.proofs.Without.{without_one, without_both}
 use Rattle.keys.proofs.next.next.Statement.{statement}
 use Rattle.keys.proofs.next.next.Tie as tie
 
@@ -35,7 +35,7 @@ loop-again c =
     let a = c.before.before.before.before.before.before.args in
     let f = key_of a.t.now a.v a.k in
     let i = c.before.before.before.loop.i in
-    (omega arith, omega arith, without-both f a.key a.from i (i + 1) c.before.before.before.loop.invariant.2 (without-one f a.key i (λ same. c.if1.false (c.before.cell.ensures ∙ same))))
+    (omega arith, omega arith, without_both f a.key a.from i (i + 1) c.before.before.before.loop.invariant.2 (without_one f a.key i (λ same. c.if1.false (c.before.cell.ensures ∙ same))))
 
 returns-2 : tie.Need-returns-2 invariant-loop decreases-loop
 returns-2 c =

@@ -4,7 +4,7 @@ use Prim.Native.Nat.{◌+◌, ◌-◌, ◌≤◌}
 use mathlib.Core.Path.{sym, ◌∙◌}
 use native.Mathlib.Omega.{arith}
 use Rattle.keys.specs.Keys.{key_of, Without}
-use Rattle.keys.proofs.Without.{without-one, without-both}
+use Rattle.keys.proofs.Without.{without_one, without_both}
 use Rattle.keys.proofs.stretch.end.Statement.{statement}
 use Rattle.keys.proofs.stretch.end.Tie as tie
 
@@ -32,8 +32,8 @@ loop-again c =
     let a = c.before.before.before.before.before.before.args in
     let f = key_of a.t.now a.v a.k in
     let i = c.before.before.before.loop.i in
-    let one = without-one f a.key (i - 1) (λ same. c.if1.false (c.before.cell.ensures ∙ same)) in
-    (omega arith, omega arith, without-both f a.key (i - 1) (i - 1 + 1) a.v.rows one (λ j above. c.before.before.before.loop.invariant.2 j (omega arith)))
+    let one = without_one f a.key (i - 1) (λ same. c.if1.false (c.before.cell.ensures ∙ same)) in
+    (omega arith, omega arith, without_both f a.key (i - 1) (i - 1 + 1) a.v.rows one (λ j above. c.before.before.before.loop.invariant.2 j (omega arith)))
 
 returns-2 : tie.Need-returns-2 invariant-loop decreases-loop
 returns-2 c =

@@ -3,7 +3,7 @@ use borrow.Author.Rules.{rules}
 use Prim.Native.Nat.{◌+◌, ◌-◌, ◌≤◌}
 use native.Mathlib.Omega.{arith}
 use Rattle.keys.specs.Keys.{key_of, Without}
-use Rattle.keys.proofs.Without.{without-none, without-four, without-both}
+use Rattle.keys.proofs.Without.{without_none, without_four, without_both}
 use Rattle.keys.proofs.stretch.fours_back.Statement.{statement}
 use Rattle.keys.proofs.stretch.fours_back.Tie as tie
 
@@ -16,7 +16,7 @@ decreases-loop t v k key from i₀ i = i
 loop-holds : tie.Need-loop-init invariant-loop decreases-loop
 loop-holds c =
     let a = c.before.args in
-    (c.before.requires.1, omega arith, without-none (key_of a.t.now a.v a.k) a.key a.v.rows)
+    (c.before.requires.1, omega arith, without_none (key_of a.t.now a.v a.k) a.key a.v.rows)
 
 in-four-requires : tie.Need-in-four-requires invariant-loop decreases-loop
 in-four-requires c κs = (c.before.before.before.requires.0, omega arith)
@@ -29,8 +29,8 @@ loop-again c =
     let a = c.before.before.before.before.before.args in
     let f = key_of a.t.now a.v a.k in
     let i = c.before.before.before.loop.i in
-    let four = without-four f a.key (i - 4) (rw (← c.before.in_four.ensures) c.if1.false) in
-    (omega arith, omega arith, without-both f a.key (i - 4) (i - 4 + 4) a.v.rows four (λ j above. c.before.before.before.loop.invariant.2 j (omega arith)))
+    let four = without_four f a.key (i - 4) (rw (← c.before.in_four.ensures) c.if1.false) in
+    (omega arith, omega arith, without_both f a.key (i - 4) (i - 4 + 4) a.v.rows four (λ j above. c.before.before.before.loop.invariant.2 j (omega arith)))
 
 returns-2 : tie.Need-returns-2 invariant-loop decreases-loop
 returns-2 c = c.before.loop.invariant

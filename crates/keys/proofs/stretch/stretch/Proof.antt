@@ -1,15 +1,15 @@
 -- The first row with the key and the last bound the stretch. Assumes nothing.
 use borrow.Author.Rules.{rules}
 use native.Mathlib.Omega.{arith}
-use Rattle.cells.proofs.Views.{narrowed-first}
+use Rattle.cells.proofs.Views.{narrowed_first}
 use Rattle.keys.proofs.stretch.stretch.Statement.{statement}
 use Rattle.keys.proofs.stretch.stretch.Tie as tie
 
 narrow-requires : tie.Need-narrow-requires
 narrow-requires c κs =
     let s = c.before.before.before in
-    let h = narrowed-first c.before.next.result c.before.next.ensures.1 s.requires in
-    let k = narrowed-first c.end.result c.end.ensures.1 s.requires in
+    let h = narrowed_first c.before.next.result c.before.next.ensures.1 s.requires in
+    let k = narrowed_first c.end.result c.end.ensures.1 s.requires in
     (omega (arith, c.end.ensures.0), omega arith)
 
 returns : tie.Need-returns

@@ -5,12 +5,12 @@ use Rattle.guideline.specs.declared.refusals.Question.{Question}
 use Rattle.guideline.specs.declared.refusals.Refusal.TheVariants.{Asks}
 use Rattle.guideline.specs.Ask.{Chosen, Refused}
 use Rattle.filter.specs.declared.Filter.TheVariants.{FitsMeasure, Matters}
-use Rattle.filter.specs.Filters.{filter643, measure-bounds}
-use Rattle.sieve.specs.Settled.{and-measure, other-value, kept}
-use Rattle.sieve.proofs.Joined.{measure-joins, other-stays}
-use Rattle.sieve.proofs.Kept.{first-none, first_some, joined-kept}
-use Rattle.quiet.specs.Fitted.{question-of}
-use Rattle.quiet.proofs.Told.{fitting-unneeded, fitting-blank, fitting-given}
+use Rattle.filter.specs.Filters.{filter643, measure_bounds}
+use Rattle.sieve.specs.Settled.{and_measure, other_value, kept}
+use Rattle.sieve.proofs.Joined.{measure_joins, other_stays}
+use Rattle.sieve.proofs.Kept.{first_none, first_some, joined_kept}
+use Rattle.quiet.specs.Fitted.{question_of}
+use Rattle.quiet.proofs.Told.{fitting_unneeded, fitting_blank, fitting_given}
 use Rattle.quiet.proofs.fitting.fitting.Statement.{statement}
 use Rattle.quiet.proofs.fitting.fitting.Tie as tie
 
@@ -19,8 +19,8 @@ returns c =
     let at-matters = c.before.before in
     let a = at-matters.before.before.args in
     let l = a.t643.now in
-    let unneeded = first-none l a.v a.s (filter643 (Matters a.m)) at-matters.first.ensures c.if1.true in
-    (refl, λ d e. fitting-unneeded (question-of a.m) (measure-bounds a.m) (kept l a.v a.s) d unneeded)
+    let unneeded = first_none l a.v a.s (filter643 (Matters a.m)) at-matters.first.ensures c.if1.true in
+    (refl, λ d e. fitting_unneeded (question_of a.m) (measure_bounds a.m) (kept l a.v a.s) d unneeded)
 
 returns-2 : tie.Need-returns-2
 returns-2 c =
@@ -31,8 +31,8 @@ returns-2 c =
     let l = a.t643.now in
     let needed = first_some l a.v a.s (filter643 (Matters a.m)) at-matters.first.ensures at-if.if1.false in
     λ d e.
-    fitting-blank (question-of a.m) (measure-bounds a.m) (kept l a.v a.s) d needed (e ∙ at_told.enum_told.given.1)
-    ∙ ap (λ (q : Question). Refused (Asks q) tt) (sym c.question-of.ensures)
+    fitting_blank (question_of a.m) (measure_bounds a.m) (kept l a.v a.s) d needed (e ∙ at_told.enum_told.given.1)
+    ∙ ap (λ (q : Question). Refused (Asks q) tt) (sym c.question_of.ensures)
 
 returns-3 : tie.Need-returns-3
 returns-3 c =
@@ -44,10 +44,10 @@ returns-3 c =
     let l = a.t643.now in
     let x = at-given.value.given.0.0 in
     let needed = first_some l a.v a.s (filter643 (Matters a.m)) at-matters.first.ensures at-if.if1.false in
-    let left = ap (kept l a.v) c.by-measure.ensures ∙ joined-kept l a.v a.s (and-measure a.s a.m x) (FitsMeasure a.m x) (measure-joins a.m a.s x at-start.requires.1) in (
-      ap (other-value a.m) c.by-measure.ensures ∙ other-stays a.m a.s x,
+    let left = ap (kept l a.v) c.by_measure.ensures ∙ joined_kept l a.v a.s (and_measure a.s a.m x) (FitsMeasure a.m x) (measure_joins a.m a.s x at-start.requires.1) in (
+      ap (other_value a.m) c.by_measure.ensures ∙ other_stays a.m a.s x,
       λ d e.
-          fitting-given (question-of a.m) (measure-bounds a.m) (kept l a.v a.s) d needed (e ∙ at-given.value.given.1)
+          fitting_given (question_of a.m) (measure_bounds a.m) (kept l a.v a.s) d needed (e ∙ at-given.value.given.1)
           ∙ ap Chosen (sym left),
     )
 

@@ -9,42 +9,42 @@ use Rattle.guideline.specs.declared.context.Ratio.{Ratio}
 use Rattle.guideline.specs.declared.entries.Prescription.{Prescription}
 use Rattle.guideline.specs.declared.rows.Row643.{Row643}
 use Rattle.guideline.specs.declared.rows.TableName.TheVariants.{T649}
-use Rattle.guideline.specs.Quiet.{minimum-empty, allows-more, lower}
+use Rattle.guideline.specs.Quiet.{minimum_empty, allows_more, lower}
 use Rattle.cells.specs.Lents.{rows}
-use Rattle.cells.proofs.Views.{fits-less}
+use Rattle.cells.proofs.Views.{fits_less}
 use Rattle.sieve.specs.Settled.{settled643}
 use Rattle.sieve.specs.Places.{passing}
-use Rattle.sieve.proofs.Passed.{Passed, pass-first, pass-miss, passed-all}
-use Rattle.sieve.proofs.Kept.{some-missed, some-found}
+use Rattle.sieve.proofs.Passed.{Passed, pass_first, pass_miss, passed_all}
+use Rattle.sieve.proofs.Kept.{some_missed, some_found}
 use Rattle.quiet.specs.Judged.{judged}
 use Rattle.quiet.proofs.Judging.{barred, freed}
-use Rattle.quiet.proofs.Looked.{Looked, looked-first, looked-on, looked-all}
+use Rattle.quiet.proofs.Looked.{Looked, looked_first, looked_on, looked_all}
 use Rattle.quiet.proofs.lower.lower.Statement.{statement}
 use Rattle.quiet.proofs.lower.lower.Tie as tie
 
 -- what keeps the signal, and what may suppress it
 abbrev bars : List ℕ → Row643 → Bool
-bars t649 r = not (minimum-empty (rows T649 t649) r)
+bars t649 r = not (minimum_empty (rows T649 t649) r)
 
-abbrev more-than : List ℕ → Prescription → Ratio → Row643 → Bool
-more-than t649 p q r = allows-more (rows T649 t649) p q r
+abbrev more_than : List ℕ → Prescription → Ratio → Row643 → Bool
+more_than t649 p q r = allows_more (rows T649 t649) p q r
 
 abbrev invariant-loop : tie.invariant-loop
 invariant-loop t643 t649 v w s p q rows category more₀ i₀ more i =
-    Passed (passing t643 v s (bars t649)) v.rows i × Looked (passing t643 v s (more-than t649 p q)) v.rows i more
+    Passed (passing t643 v s (bars t649)) v.rows i × Looked (passing t643 v s (more_than t649 p q)) v.rows i more
 
 abbrev decreases-loop : tie.decreases-loop
 decreases-loop t643 t649 v w s p q rows category more₀ i₀ more i = rows - i
 
 next-requires : tie.Need-next-requires invariant-loop decreases-loop
-next-requires c κs = (fits-less 1 (omega arith) c.before.before.requires.0, omega arith)
+next-requires c κs = (fits_less 1 (omega arith) c.before.before.requires.0, omega arith)
 
 loop-holds : tie.Need-loop-init invariant-loop decreases-loop
 loop-holds c =
     let a = c.before.before.before.args in
     let l = a.t643.now in (
-      pass-first l a.v a.s (bars a.t649.now) c.next.ensures,
-      looked-first l a.v a.s (more-than a.t649.now a.p a.q) c.next.ensures,
+      pass_first l a.v a.s (bars a.t649.now) c.next.ensures,
+      looked_first l a.v a.s (more_than a.t649.now a.p a.q) c.next.ensures,
     )
 
 row-requires : tie.Need-row-requires invariant-loop decreases-loop
@@ -54,7 +54,7 @@ add-next : tie.Need-overflow-add-next invariant-loop decreases-loop
 add-next c = let h = c.before.before.before.before.before.before.requires.0.few in search (h, rules)
 
 next-requires-2 : tie.Need-next-requires-2 invariant-loop decreases-loop
-next-requires-2 c κs = (fits-less 1 (omega arith) c.before.before.before.before.before.before.requires.0, omega arith)
+next-requires-2 c κs = (fits_less 1 (omega arith) c.before.before.before.before.before.before.requires.0, omega arith)
 
 judge-requires : tie.Need-judge-requires invariant-loop decreases-loop
 judge-requires c κs = let at-start = c.before.before.before.before.before.before.before in (at-start.requires.1, at-start.requires.2, at-start.requires.3)
@@ -68,10 +68,10 @@ returns c =
     let a = at-loop.before.before.before.before.args in
     let l = a.t643.now in
     let b = bars a.t649.now in
-    let m = more-than a.t649.now a.p a.q in
+    let m = more_than a.t649.now a.p a.q in
     let here = at-judge.judge.ensures ∙ ap (λ (r : Row643). judged (settled643 a.s r && b r) (settled643 a.s r && m r)) at_row.row.ensures in
     let bar = barred _ _ (sym here ∙ c.enum_told.given.1) in
-    rw (some-found l a.v a.s b _ (omega arith) bar)
+    rw (some_found l a.v a.s b _ (omega arith) bar)
 
 loop-again : tie.Need-loop-preserved invariant-loop decreases-loop
 loop-again c =
@@ -83,11 +83,11 @@ loop-again c =
     let a = at-loop.before.before.before.before.args in
     let l = a.t643.now in
     let b = bars a.t649.now in
-    let m = more-than a.t649.now a.p a.q in
+    let m = more_than a.t649.now a.p a.q in
     let here = at-judge.judge.ensures ∙ ap (λ (r : Row643). judged (settled643 a.s r && b r) (settled643 a.s r && m r)) at_row.row.ensures in
     let free = freed _ _ (sym here ∙ at-judged.judged.given.1) in
-    let looked = looked-on l a.v a.s m at-loop.loop.invariant.1 (omega arith) free.1 at_next.next2.ensures in
-    (pass-miss l a.v a.s b at-loop.loop.invariant.0 free.0 at_next.next2.ensures, rw c.either.ensures looked)
+    let looked = looked_on l a.v a.s m at-loop.loop.invariant.1 (omega arith) free.1 at_next.next2.ensures in
+    (pass_miss l a.v a.s b at-loop.loop.invariant.0 free.0 at_next.next2.ensures, rw c.either.ensures looked)
 
 returns-2 : tie.Need-returns-2 invariant-loop decreases-loop
 unfolding lower
@@ -95,8 +95,8 @@ returns-2 c =
     let at-loop = c.before in
     let a = at-loop.before.before.before.before.args in
     let l = a.t643.now in
-    rw (some-missed l a.v a.s (bars a.t649.now) (passed-all at-loop.loop.invariant.0 (omega arith)))
-    (looked-all l a.v a.s (more-than a.t649.now a.p a.q) at-loop.loop.invariant.1 (omega arith))
+    rw (some_missed l a.v a.s (bars a.t649.now) (passed_all at-loop.loop.invariant.0 (omega arith)))
+    (looked_all l a.v a.s (more_than a.t649.now a.p a.q) at-loop.loop.invariant.1 (omega arith))
 
 pub lower_spec : {M : Type 1} → statement M
 lower_spec =

@@ -5,7 +5,7 @@ use mathlib.Core.Path.{sym, ◌∙◌}
 use native.Mathlib.Omega.{arith}
 use borrow.Author.Tests.{not-true, not-false}
 use Rattle.ranges.specs.Soundly.{InRangeUpTo}
-use Rattle.ranges.proofs.RowByRow.{found-unsound, all_sound, one-tested}
+use Rattle.ranges.proofs.RowByRow.{found_unsound, all_sound, one_tested}
 use Rattle.ranges.proofs.rows.rest_in_range.Statement.{statement}
 use Rattle.ranges.proofs.rows.rest_in_range.Tie as tie
 
@@ -25,7 +25,7 @@ returns : tie.Need-returns invariant-loop decreases-loop
 returns c =
     let at_row = c.before in
     let a = at_row.before.before.before.before.args in
-    sym (found-unsound a.n a.t.now a.v at_row.before.before.loop.i (omega arith) (sym at_row.row-in-range.ensures ∙ not-true _ c.if1.true))
+    sym (found_unsound a.n a.t.now a.v at_row.before.before.loop.i (omega arith) (sym at_row.row-in-range.ensures ∙ not-true _ c.if1.true))
 
 add-i : tie.Need-overflow-add-i invariant-loop decreases-loop
 add-i c = let h = c.before.before.before.before.before.requires.0.few in search (h, rules)
@@ -34,7 +34,7 @@ loop-again : tie.Need-loop-preserved invariant-loop decreases-loop
 loop-again c =
     let at_row = c.before in
     let a = at_row.before.before.before.before.args in
-    one-tested a.n a.t.now a.v at_row.before.before.loop.invariant (omega arith) (sym at_row.row-in-range.ensures ∙ not-false _ c.if1.false)
+    one_tested a.n a.t.now a.v at_row.before.before.loop.invariant (omega arith) (sym at_row.row-in-range.ensures ∙ not-false _ c.if1.false)
 
 returns-2 : tie.Need-returns-2 invariant-loop decreases-loop
 returns-2 c =

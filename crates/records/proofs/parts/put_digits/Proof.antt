@@ -6,7 +6,7 @@ use native.Mathlib.Omega.{arith}
 use lib.ListN.{length, length-set}
 use lib.Seq.{sets}
 use Rattle.records.specs.Digits.{digits}
-use Rattle.records.proofs.Stores.{digits-turn, digits-end}
+use Rattle.records.proofs.Stores.{digits_turn, digits_end}
 use Rattle.records.proofs.parts.put_digits.Statement.{statement}
 use Rattle.records.proofs.parts.put_digits.Tie as tie
 
@@ -21,13 +21,13 @@ loop-holds : tie.Need-loop-init invariant-loop decreases-loop
 loop-holds c = (search rules, refl, refl)
 
 loop-again : tie.Need-loop-preserved invariant-loop decreases-loop
-loop-again c = (search rules, simp length-set (omega arith), sym (digits-turn _ _ _ _ c.loop-test.true) ∙ c.before.loop.invariant.2)
+loop-again c = (search rules, simp length-set (omega arith), sym (digits_turn _ _ _ _ c.loop-test.true) ∙ c.before.loop.invariant.2)
 
 same_length : tie.Need-same-length invariant-loop decreases-loop
 same_length c = c.before.loop.invariant.1
 
 returns : tie.Need-returns invariant-loop decreases-loop
-returns c = sym (digits-end _ _ _ _ c.loop-test.false) ∙ c.before.loop.invariant.2
+returns c = sym (digits_end _ _ _ _ c.loop-test.false) ∙ c.before.loop.invariant.2
 
 pub put-digits-spec : {M : Type 1} → statement M
 put-digits-spec =

@@ -12,7 +12,7 @@ returns c d =
     let at-reason = at-route.before in
     let at-care = at-reason.before in
     let a = at-care.before.before.args in
-    rw (c.chosen.ensures, at-route.by-route.ensures, at-reason.keep-reason.ensures, at-care.keep-care.ensures) (setting_kept d (shown T642 a.t642.now a.v) a.s a.basis)
+    rw (c.chosen.ensures, at-route.by-route.ensures, at-reason.keep_reason.ensures, at-care.keep_care.ensures) (setting_kept d (shown T642 a.t642.now a.v) a.s a.basis)
 
 pub of-basis-spec : {M : Type 1} → statement M
 of-basis-spec = tie.close (tie.spec (λ c κs. search rules) (λ c κs. search rules) (λ c κs. search rules) (λ c κs. search rules) returns)

@@ -13,7 +13,7 @@ unfolding lendable
 returns c = rw c.enum_told.given.1 refl
 
 returns-2 : tie.Need-returns-2
-returns-2 c = rw c.before.enum-told2.given.1 c.lists-lendable.ensures
+returns-2 c = rw c.before.enum-told2.given.1 c.lists_lendable.ensures
 
 returns-3 : tie.Need-returns-3
 unfolding lendable

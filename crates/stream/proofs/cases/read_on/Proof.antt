@@ -1,12 +1,12 @@
 -- The stream goes on, ends before a case, or ends inside one. Assumes nothing.
 use Prim.Native.Nat.{ℕ, zero, suc}
 use mathlib.Core.Path.{◌≡◌, refl}
-use Rattle.stream.specs.Cases.{at-end}
+use Rattle.stream.specs.Cases.{at_end}
 use Rattle.stream.specs.declared.cases.Next.TheVariants.{Broken}
 use Rattle.stream.proofs.cases.read_on.Statement.{statement}
 use Rattle.stream.proofs.cases.read_on.Tie as tie
 
-inside : (n : ℕ) → (n ≡ 0 → ⊥) → Broken ≡ at-end n
+inside : (n : ℕ) → (n ≡ 0 → ⊥) → Broken ≡ at_end n
 inside zero h = absurd (h refl)
 inside (suc n) h = refl
 

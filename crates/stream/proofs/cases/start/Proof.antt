@@ -5,7 +5,7 @@ use native.Mathlib.Omega.{arith}
 use native.Mathlib.Numerals.{add-one}
 use borrow.Author.Rules.{rules}
 use Rattle.stream.specs.Cases.{front_length, start}
-use Rattle.stream.proofs.Inside.{start-next}
+use Rattle.stream.proofs.Inside.{start_next}
 use Rattle.stream.proofs.cases.start.Statement.{statement}
 use Rattle.stream.proofs.cases.start.Tie as tie
 
@@ -33,7 +33,7 @@ loop-less c = omega arith
 
 loop-again : tie.Need-loop-preserved invariant-loop decreases-loop
 loop-again c =
-    (omega arith, rw (add-one c.before.before.loop.i) (omega (arith, start-next c.before.before.before.before.args.case.now c.before.before.loop.i)), omega arith)
+    (omega arith, rw (add-one c.before.before.loop.i) (omega (arith, start_next c.before.before.before.before.args.case.now c.before.before.loop.i)), omega arith)
 
 returns : tie.Need-returns invariant-loop decreases-loop
 returns c =

@@ -6,16 +6,16 @@ use native.Mathlib.Omega.{arith}
 use borrow.Author.Rules.{rules}
 use lib.ListN.{length, drop, get_or, drop_of_length-le}
 use lib.Seq.{sets}
-use Rattle.decimals.proofs.Decimal.{field-32}
-use Rattle.stream.specs.Lines.{line, longest-field}
-use Rattle.stream.proofs.InLine.{put-number}
+use Rattle.decimals.proofs.Decimal.{field_32}
+use Rattle.stream.specs.Lines.{line, longest_field}
+use Rattle.stream.proofs.InLine.{put_number}
 use Rattle.stream.proofs.lines.put_numbers.Statement.{statement}
 use Rattle.stream.proofs.lines.put_numbers.Tie as tie
 
 abbrev invariant-loop : tie.invariant-loop
 invariant-loop numbers buf₀ at end₀ i₀ buf end i =
     (i ≤ length numbers)
-    × (end ≤ at + i * longest-field)
+    × (end ≤ at + i * longest_field)
     × (length buf ≡ length buf₀)
     × (end + length (line (drop i numbers)) ≡ at + length (line numbers))
     × (sets buf end (line (drop i numbers)) ≡ sets buf₀ at (line numbers))
@@ -42,7 +42,7 @@ put-field-requires : tie.Need-put-field-requires invariant-loop decreases-loop
 put-field-requires c κs =
     let i = c.before.before.before.before.loop.i in
     let n = get_or c.before.before.before.before.before.before.before.args.numbers.now i 0 in
-    omega (arith, field-32 n c.separator.result (omega (arith, c.before.before.shared-slice-known2.given i)))
+    omega (arith, field_32 n c.separator.result (omega (arith, c.before.before.shared-slice-known2.given i)))
 
 loop-less : tie.Need-loop-smaller invariant-loop decreases-loop
 loop-less c = omega arith
@@ -52,8 +52,8 @@ loop-again c =
     let numbers = c.before.before.before.before.before.before.before.before.before.before.args.numbers.now in
     let i = c.before.before.before.before.before.before.before.loop.i in
     let inv = c.before.before.before.before.before.before.before.loop.invariant in
-    let size = field-32 (get_or numbers i 0) c.before.before.before.separator.result (omega (arith, c.before.before.before.before.before.shared-slice-known2.given i)) in
-    let put = put-number numbers i (omega arith) c.before.before.before.separator.ensures c.before.before.put-field.ensures in
+    let size = field_32 (get_or numbers i 0) c.before.before.before.separator.result (omega (arith, c.before.before.before.before.before.shared-slice-known2.given i)) in
+    let put = put_number numbers i (omega arith) c.before.before.before.separator.ensures c.before.before.put-field.ensures in
     (omega arith, omega (arith, c.before.before.put-field.ensures.place), c.before.before.put-field.auto.0 ∙ inv.2, put.0 ∙ inv.3, put.1 ∙ inv.4)
 
 same_length : tie.Need-same-length invariant-loop decreases-loop

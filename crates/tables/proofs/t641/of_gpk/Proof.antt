@@ -1,7 +1,7 @@
 -- The rows of the key in the table, row after row. Assumes nothing.
 use borrow.Author.Rules.{rules}
 use Rattle.guideline.specs.declared.rows.TableName.TheVariants.{T641}
-use Rattle.keys.proofs.TablesSeen.{key_fits, seen-rises, of-table}
+use Rattle.keys.proofs.TablesSeen.{key_fits, seen_rises, of_table}
 use Rattle.tables.proofs.t641.of_gpk.Statement.{statement}
 use Rattle.tables.proofs.t641.of_gpk.Tie as tie
 
@@ -9,10 +9,10 @@ find-requires : tie.Need-find-requires
 find-requires c κs =
     let at-start = c.before.before in
     let l = at-start.args.t.now in
-    (key_fits T641 l c.by_rows.ensures, seen-rises T641 l c.by_rows.ensures at-start.requires)
+    (key_fits T641 l c.by_rows.ensures, seen_rises T641 l c.by_rows.ensures at-start.requires)
 
 returns : tie.Need-returns
-returns c = of-table T641 c.before.before.before.args.t.now c.before.by_rows.ensures c.find.ensures
+returns c = of_table T641 c.before.before.before.args.t.now c.before.by_rows.ensures c.find.ensures
 
 pub of-gpk-spec : {M : Type 1} → statement M
 of-gpk-spec = tie.close (tie.spec (λ c κs. search rules) find-requires returns)

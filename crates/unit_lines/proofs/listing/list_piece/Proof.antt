@@ -3,7 +3,7 @@ use borrow.Author.Rules.{rules}
 use mathlib.Core.Path.{◌≡◌}
 use lib.ListN.{length, length-take}
 use Rattle.unit_lines.specs.Feeding.{Feeds}
-use Rattle.unit_lines.proofs.Callers.{fed-length}
+use Rattle.unit_lines.proofs.Callers.{fed_length}
 use Rattle.unit_lines.proofs.Pieces.{lists}
 use Rattle.unit_lines.proofs.listing.list_piece.Statement.{statement}
 use Rattle.unit_lines.proofs.listing.list_piece.Tie as tie
@@ -16,4 +16,4 @@ returns c =
     lists (omega (arith, length-take m.len m.bytes)) c.before.before.before.before.before.before.before.requires p
 
 pub list-piece-spec : {M : Type 1} → statement M
-list-piece-spec = tie.close (tie.spec (λ c κs. search rules) (λ c. fed-length c.before.before.before.feed.ensures) returns)
+list-piece-spec = tie.close (tie.spec (λ c κs. search rules) (λ c. fed_length c.before.before.before.feed.ensures) returns)

@@ -1,7 +1,7 @@
 use mathlib.Core.Path.{sym, ◌∙◌}
 use mathlib.Core.Logic.{⊎_elim}
 use borrow.Author.Tests.{leb-true, leb-false}
-use Rattle.unit_lines.proofs.Feeding.{feeds-nothing, past-input, no_room}
+use Rattle.unit_lines.proofs.Feeding.{feeds_nothing, past_input, no_room}
 use borrow.Author.Rules.{rules}
 use Rattle.unit_lines.proofs.machine.feed.Statement.{statement}
 use Rattle.unit_lines.proofs.machine.feed.Tie as tie
@@ -31,7 +31,7 @@ returns-2 c =
     let from = c.before.before.before.before.before.args.from in
     let out = c.before.before.before.before.before.args.out.now in
     let at = c.before.before.before.before.before.args.at in
-    feeds-nothing m input from out at _ (⊎_elim (λ w. no_room m input from out at (leb-false _ _ (sym w.1.ensures ∙ w.2.left))) (λ w. past-input m input from out at w.left) c.before.before.if1.branch) c.grown.ensures
+    feeds_nothing m input from out at _ (⊎_elim (λ w. no_room m input from out at (leb-false _ _ (sym w.1.ensures ∙ w.2.left))) (λ w. past_input m input from out at w.left) c.before.before.if1.branch) c.grown.ensures
 
 pub feed-spec : {M : Type 1} → statement M
 feed-spec =

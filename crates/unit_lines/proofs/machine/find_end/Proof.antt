@@ -4,13 +4,13 @@ use mathlib.Core.Path.{◌≡◌, refl, sym, ◌∙◌}
 use native.Mathlib.Omega.{arith}
 use borrow.Author.Rules.{rules}
 use lib.ListN.{length, drop}
-use Rattle.unit_lines.specs.Machine.{end-in}
-use Rattle.unit_lines.proofs.Ends.{end-found, end_later, end-over}
+use Rattle.unit_lines.specs.Machine.{end_in}
+use Rattle.unit_lines.proofs.Ends.{end_found, end_later, end_over}
 use Rattle.unit_lines.proofs.machine.find_end.Statement.{statement}
 use Rattle.unit_lines.proofs.machine.find_end.Tie as tie
 
 abbrev invariant-loop : tie.invariant-loop
-invariant-loop input from before last₀ i₀ last i = (i ≤ length input) × (i + end-in last (drop i input) ≡ from + end-in before (drop from input))
+invariant-loop input from before last₀ i₀ last i = (i ≤ length input) × (i + end_in last (drop i input) ≡ from + end_in before (drop from input))
 
 abbrev decreases-loop : tie.decreases-loop
 decreases-loop input from before last₀ i₀ last i = length input - i
@@ -26,7 +26,7 @@ ends-requires c κs = search rules
 
 returns : tie.Need-returns invariant-loop decreases-loop
 returns c =
-    let e = end-found c.before.before.before.before.loop.last c.before.before.before.before.before.before.args.input.now c.before.before.before.before.loop.i c.before.before.before.loop-test.true (sym c.before.ends.ensures ∙ c.if1.true) in
+    let e = end_found c.before.before.before.before.loop.last c.before.before.before.before.before.before.args.input.now c.before.before.before.before.loop.i c.before.before.before.loop-test.true (sym c.before.ends.ensures ∙ c.if1.true) in
     omega (arith, c.before.before.before.before.loop.invariant.1)
 
 add-i : tie.Need-overflow-add-i invariant-loop decreases-loop
@@ -41,7 +41,7 @@ loop-again c =
 
 returns-2 : tie.Need-returns-2 invariant-loop decreases-loop
 returns-2 c =
-    let e = end-over c.before.loop.last c.before.before.before.args.input.now c.before.loop.i c.loop-test.false in
+    let e = end_over c.before.loop.last c.before.before.before.args.input.now c.before.loop.i c.loop-test.false in
     omega (arith, c.before.loop.invariant.1)
 
 pub find-end-spec : {M : Type 1} → statement M

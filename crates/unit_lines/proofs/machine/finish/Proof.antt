@@ -3,9 +3,9 @@ use mathlib.Core.Path.{sym, ap, ◌∙◌}
 use native.Mathlib.Omega.{arith}
 use borrow.Author.Tests.{leb-true, leb-false}
 use lib.ListN.{length}
-use Rattle.unit_lines.specs.Machine.{longest-line}
-use Rattle.unit_lines.proofs.Kept.{text-inside, take-text}
-use Rattle.unit_lines.proofs.Finishing.{finish-none, finish-full, finish-line}
+use Rattle.unit_lines.specs.Machine.{longest_line}
+use Rattle.unit_lines.proofs.Kept.{text_inside, take_text}
+use Rattle.unit_lines.proofs.Finishing.{finish_none, finish_full, finish_line}
 use borrow.Author.Rules.{rules}
 use Rattle.unit_lines.proofs.machine.finish.Statement.{statement}
 use Rattle.unit_lines.proofs.machine.finish.Tie as tie
@@ -14,20 +14,20 @@ length-of-requires : tie.Need-length-of-requires
 length-of-requires c κs = search rules
 
 returns : tie.Need-returns
-returns c = finish-none c.before.before.before.args.m _ _ (sym c.before.length-of.ensures ∙ c.if1.true)
+returns c = finish_none c.before.before.before.args.m _ _ (sym c.before.length-of.ensures ∙ c.if1.true)
 
 has-room-requires : tie.Need-has-room-requires
 has-room-requires c κs = search rules
 
 array-share-prefix-bytes : tie.Need-array-share-prefix-bytes
-array-share-prefix-bytes c = text-inside c.before.before.before.before.before.before.args.m _ c.before.before.before.before.length-of.ensures
+array-share-prefix-bytes c = text_inside c.before.before.before.before.before.before.args.m _ c.before.before.before.before.length-of.ensures
 
 slice-aggregate-list-text : tie.Need-slice-aggregate-list-text
-slice-aggregate-list-text c = c.before.before.before.before.before.length-of.ensures ∙ ap length (sym (take-text c.before.before.before.before.before.before.before.args.m _ c.before.before.before.before.before.length-of.ensures))
+slice-aggregate-list-text c = c.before.before.before.before.before.length-of.ensures ∙ ap length (sym (take_text c.before.before.before.before.before.before.before.args.m _ c.before.before.before.before.before.length-of.ensures))
 
 list-text-requires : tie.Need-list-text-requires
 list-text-requires c κs =
-    let r : longest-line ≤ length c.before.before.before.before.before.before.before.before.args.out.now - c.before.before.before.before.before.before.before.before.args.at = leb-true _ _ (sym c.before.before.before.before.has_room.ensures ∙ c.before.before.before.if2.true) in
+    let r : longest_line ≤ length c.before.before.before.before.before.before.before.before.args.out.now - c.before.before.before.before.before.before.before.before.args.at = leb-true _ _ (sym c.before.before.before.before.has_room.ensures ∙ c.before.before.before.if2.true) in
     omega arith
 
 sub-written : tie.Need-overflow-sub-written
@@ -38,12 +38,12 @@ same_length c = search rules
 
 returns-2 : tie.Need-returns-2
 returns-2 c =
-    let r : longest-line ≤ length c.before.before.before.before.before.before.before.before.before.before.before.args.out.now - c.before.before.before.before.before.before.before.before.before.before.before.args.at = leb-true _ _ (sym c.before.before.before.before.before.before.before.has_room.ensures ∙ c.before.before.before.before.before.before.if2.true) in
-    let p = rw (take-text c.before.before.before.before.before.before.before.before.before.before.before.args.m _ c.before.before.before.before.before.before.before.before.before.length-of.ensures) at c.before.before.list-text.ensures in
-    finish-line c.before.before.before.before.before.before.before.before.before.before.before.args.m _ _ _ _ r (omega (arith, c.before.before.before.before.before.before.before.before.before.length-of.ensures, c.before.before.before.before.before.before.before.before.if1.false)) p
+    let r : longest_line ≤ length c.before.before.before.before.before.before.before.before.before.before.before.args.out.now - c.before.before.before.before.before.before.before.before.before.before.before.args.at = leb-true _ _ (sym c.before.before.before.before.before.before.before.has_room.ensures ∙ c.before.before.before.before.before.before.if2.true) in
+    let p = rw (take_text c.before.before.before.before.before.before.before.before.before.before.before.args.m _ c.before.before.before.before.before.before.before.before.before.length-of.ensures) at c.before.before.list-text.ensures in
+    finish_line c.before.before.before.before.before.before.before.before.before.before.before.args.m _ _ _ _ r (omega (arith, c.before.before.before.before.before.before.before.before.before.length-of.ensures, c.before.before.before.before.before.before.before.before.if1.false)) p
 
 returns-3 : tie.Need-returns-3
-returns-3 c = finish-full c.before.before.before.before.before.args.m _ _ (leb-false _ _ (sym c.before.has_room.ensures ∙ c.if2.false)) (omega (arith, c.before.before.before.length-of.ensures, c.before.before.if1.false))
+returns-3 c = finish_full c.before.before.before.before.before.args.m _ _ (leb-false _ _ (sym c.before.has_room.ensures ∙ c.if2.false)) (omega (arith, c.before.before.before.length-of.ensures, c.before.before.if1.false))
 
 pub finish_spec : {M : Type 1} → statement M
 finish_spec =
