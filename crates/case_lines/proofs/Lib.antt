@@ -1,2 +1,5 @@
 pub mod Tables
+pub mod Turns
 pub mod Onward
+pub mod Places
+pub mod Ranges

@@ -12,11 +12,10 @@ use Rattle.guideline.specs.Counts.{in_turn}
 use Rattle.ranges.specs.Soundly.{soundness}
 use Rattle.stream.specs.Cases.{tables_of, entry_count}
 use Rattle.stream.specs.declared.cases.Form.{Form}
-use Rattle.case_lines.specs.Lines.{lines_of, lines_from, all_lines, longest_text, test_of, Answered}
-use Rattle.entry_lines.specs.Lines.{Fitting}
+use Rattle.case_lines.specs.Lines.{lines_of, lines_from, all_lines, longest_text, Fitting, test_of, Answered}
 use Rattle.case_lines.specs.declared.Progress.{Progress}
-use Rattle.entry_lines.specs.declared.Test.TheVariants.{ByCheck, Once}
-use Rattle.entry_lines.proofs.Turns.{same_in_turn, join_in_turn, put_next}
+use Rattle.case_lines.specs.declared.Test.TheVariants.{ByCheck, Once}
+use Rattle.case_lines.proofs.Turns.{same_in_turn, join_in_turn, put_next}
 
 module _ (f : Form) (b : List ℕ) where
   pub no_line : (from : ℕ) (old : List ℕ) (at : ℕ) → Put old at (lines_from f b from (from - from)) old at

@@ -3,15 +3,20 @@ use Prim.Native.Nat.{ℕ}
 use mathlib.Core.List.{List}
 use mathlib.Core.Path.{◌≡◌, refl, ap, fun_ext, ◌∙◌}
 use Rattle.guideline.specs.Bytes.{Lents, lents, spelled}
+use Rattle.guideline.specs.Check.{check}
+use Rattle.guideline.specs.declared.answer.Answer.{Answer}
 use Rattle.guideline.specs.declared.entries.Entry.{Entry}
 use Rattle.guideline.specs.declared.rows.TableName.{TableName}
 use Rattle.guideline.specs.declared.rows.TableName.TheVariants.{T640, T641, T642, T643, T649, T730, T070}
 use Rattle.stream.specs.Cases.{tables_of, entry_of, wanted_of}
 use Rattle.stream.specs.declared.cases.Form.{Form}
-use Rattle.stream.specs.declared.cases.Form.TheVariants.{Single, Range, Ratio}
+use Rattle.stream.specs.declared.cases.Form.TheVariants.{Single, Range}
 use Rattle.stream.specs.declared.cases.Wanted.{Wanted}
-use Rattle.entry_lines.specs.Lines.{answer_line, range_lines, ratio_line}
-use Rattle.case_lines.specs.Lines.{lines_of}
+use Rattle.case_lines.specs.Lines.{answer_line, range_lines, lines_of}
+
+-- an answer over tables is that over any tables that they are
+pub answer_over : {a : Answer} (e : Entry) (f g : Lents) → a ≡ check (spelled f) e → f ≡ g → a ≡ check (spelled g) e
+answer_over e f g p h = rw h at p
 
 module _ (b : List ℕ) where
   -- what was cut out under the name m, and the name that it was to have
@@ -39,7 +44,3 @@ module _ (f : Form) (b : List ℕ) (i : ℕ) {t : Lents} {e : Entry} where
   pub range_lines_of : {w : Wanted} → f ≡ Range → t ≡ tables_of b → e ≡ entry_of f b i → w ≡ wanted_of b i → range_lines (spelled t) e w ≡ lines_of f b i
   unfolding lines_of
   range_lines_of p q r s = rw (q, r, p, s) refl
-
-  pub ratio_lines : f ≡ Ratio → t ≡ tables_of b → e ≡ entry_of f b i → ratio_line (spelled t) e ≡ lines_of f b i
-  unfolding lines_of
-  ratio_lines p q r = rw (q, r, p) refl

@@ -1,4 +1,4 @@
--- The lines of a case: for each entry, in their order, what it gets (crate entry_lines).
+-- The lines of a case: for each entry, in their order, that of the check's answer, or those of the range check's.
 use Rattle.std.specs.Prelude.{ℕ, ◌+◌, ◌*◌, ◌-◌, ◌≤◌, ◌<◌, cond, ◌≡◌, List, [], ◌∷◌, leb, ltb, length}
 use Rattle.decimals.specs.Put.{Put}
 use Rattle.guideline.specs.declared.counted.Counted.{Counted}
@@ -12,18 +12,28 @@ use Rattle.ranges.specs.Soundly.{soundness}
 use Rattle.stream.specs.Cases.{tables_of, entry_of, wanted_of, entry_count, Whole}
 use Rattle.stream.specs.Lines.{line, longest_line}
 use Rattle.stream.specs.declared.cases.Form.{Form}
-use Rattle.stream.specs.declared.cases.Form.TheVariants.{Single, Range, Ratio}
+use Rattle.stream.specs.declared.cases.Form.TheVariants.{Single, Range}
 use Rattle.stream.specs.declared.cases.Wanted.{Wanted}
-use Rattle.entry_lines.specs.declared.Test.{Test}
-use Rattle.entry_lines.specs.declared.Test.TheVariants.{ByCheck, Once}
-use Rattle.entry_lines.specs.Lines.{answer_line, range_lines, ratio_line, longest_range, Fitting}
+use Rattle.case_lines.specs.declared.Test.{Test}
+use Rattle.case_lines.specs.declared.Test.TheVariants.{ByCheck, Once}
 use Rattle.case_lines.specs.declared.Progress.{Progress}
+
+-- what an entry gets from the single check
+unfoldable pub answer_line : Tables → Entry → List ℕ
+answer_line t e = line (numbers_of (check t e))
+
+-- and from the range check, f i the numbers of answer i: "it prints `131` or `132`, or one line for each answer"
+abbrev pub counted_lines : (ℕ → List ℕ) → Counted → List ℕ
+counted_lines f (All n) = in_turn (λ i. line (f i)) n
+counted_lines f (Refused why) = line (refusal_number why ∷ [])
+
+unfoldable pub range_lines : Tables → Entry → Wanted → List ℕ
+range_lines t e w = counted_lines (λ i. answer_for t e (w.first + i)) (counted w.first w.last w.places)
 
 -- what entry i of a case gets
 unfoldable pub lines_of : Form → List ℕ → ℕ → List ℕ
 lines_of Single b i = answer_line (spelled (tables_of b)) (entry_of Single b i)
 lines_of Range b i = range_lines (spelled (tables_of b)) (entry_of Range b i) (wanted_of b i)
-lines_of Ratio b i = ratio_line (spelled (tables_of b)) (entry_of Ratio b i)
 
 -- what n entries get, from entry i on
 abbrev pub lines_from : Form → List ℕ → ℕ → ℕ → List ℕ
@@ -33,12 +43,23 @@ abbrev pub all_lines : Form → List ℕ → List ℕ
 all_lines f b = lines_from f b 0 (entry_count b)
 
 -- room for what any entry gets
+abbrev pub longest_range : ℕ
+longest_range = most_counts * longest_line
+
 abbrev pub longest_text : Form → ℕ
 longest_text Single = longest_line
 longest_text Range = longest_range
-longest_text Ratio = longest_line
 
--- what is tested of the tables
+-- at most 16 answers, all inside a list of so many numbers
+abbrev pub InList : Counted → ℕ → Type 0
+InList (All n) long = (n ≤ most_counts) × (n * answer_length ≤ long)
+InList (Refused why) long = Unit {0}
+
+-- what was tested of the tables
+abbrev pub Fitting : Test → Lents → Type 0
+Fitting ByCheck t = Unit {0}
+Fitting (Once s) t = s ≡ soundness t
+
 unfoldable pub test_of : List ℕ → Test
 test_of b = cond (leb (entry_count b) 1) ByCheck (Once (soundness (tables_of b)))
 

@@ -3,12 +3,21 @@ ghost use Rattle.std.specs.Prelude.{◌≡◌, ◌+◌, ◌≤◌, ◌<◌, leng
 ghost use Rattle.decimals.specs.Put.{Put};
 ghost use Rattle.guideline.specs.Bytes.{lents};
 ghost use Rattle.stream.specs.Cases.{tables_of, tables_end, entry_count, Whole};
-ghost use Rattle.entry_lines.specs.Lines.{Fitting};
-ghost use Rattle.case_lines.specs.Lines.{test_of, lines_of, longest_text, Ready, Answered};
+ghost use Rattle.case_lines.specs.Lines.{Fitting, test_of, lines_of, longest_text, Ready, Answered};
 
-use entry_lines::{Test, range, ratio, single};
 use guideline::rows::TableName;
+use ranges::sound::Soundness;
 use stream::cases::{Form, table};
+
+pub mod range;
+pub mod single;
+
+// The tables of a case are tested once for all its entries, or by the check where there is one.
+#[derive(Drop)]
+pub enum Test {
+    ByCheck,
+    Once(Soundness),
+}
 
 // The next entry, the place behind the lines, and whether entries are left.
 #[derive(Drop)]
@@ -43,7 +52,6 @@ pub fn longest(form: Form) -> usize
     match form {
         Form::Single => stream::lines::LONGEST,
         Form::Range => range::LONGEST,
-        Form::Ratio => stream::lines::LONGEST,
     }
 }
 
@@ -75,7 +83,6 @@ fn put_entry(
                 test, t640, t641, t642, t643, t649, t730, t070, e, w, out, at,
             )
         }
-        Form::Ratio => ratio::put(test, t640, t641, t642, t643, t649, t730, t070, e, out, at),
     }
 }
 

@@ -23,7 +23,7 @@ use Rattle.guideline.specs.Edition.{in_former}
 use Rattle.guideline.specs.Check.{after_filling, answer_length, numbers_of, outcome, place_of, check}
 use Rattle.guideline.specs.Counts.{on_unless_given, numbers_at}
 use Rattle.guideline.specs.ProofTable.{proof_table, bytes_printed}
-use Rattle.guideline.proofs.CountExamples.{ranges, ranges_of_months, all_hold}
+use Rattle.guideline.proofs.CountExamples.{ranges, ranges_of_months, all_hold, counts_of_K1_as_bytes, months_in_ranges_as_bytes}
 use Rattle.guideline.proofs.CountLaws.{place_answered, rest_behind}
 use Rattle.guideline.proofs.Months.{range_not_given_is_on}
 use Rattle.guideline.proofs.TwinTraps.{twin_tables}
@@ -33,7 +33,6 @@ use Rattle.guideline.proofs.Same.{BlankAfterFilling}
 use Rattle.guideline.proofs.Shuffle.{ReorderedBytes}
 use Rattle.guideline.proofs.Shapes.{right, at_least_1}
 use Rattle.guideline.proofs.Listed.{listed}
-use Rattle.as_bytes.proofs.Examples.{counts_of_K1_as_bytes, months_in_ranges_as_bytes}
 use Rattle.dosecheck.specs.Answers.{Answers}
 use Rattle.dosecheck.proofs.Demands.{demand_1, demand_3_same, demand_3_later, without_table_70, two_editions, reordering}
 use Rattle.each_count.specs.Each.{AnswersEach}

@@ -1,15 +1,17 @@
 -- P2 on K1 of the proof table: "1 to 3 times a day", both ends of each refusal, and which of two faults is said. P7 on the same. P3 on the twins of weeks and
--- months. (On bytes: crate as_bytes.)
+-- months.
+-- On rows and on bytes.
 use Prim.Native.Nat.{ℕ, zero, suc}
 use mathlib.Core.Bool.{Bool, true, ◌&&◌}
 use mathlib.Core.List.{List, [], ◌∷◌, ◌++◌}
 use lib.Dec.{T, eqb}
 use Rattle.guideline.specs.Types.{Counted, All, RangeRefused}
+use Rattle.guideline.specs.Bytes.{spelled}
 use Rattle.guideline.specs.Values.{off, on, former}
 use Rattle.guideline.specs.Entries.{blank, read_entry}
 use Rattle.guideline.specs.Rows.{Tables}
 use Rattle.guideline.specs.Counts.{in_turn, counted, refusal_number, list_after}
-use Rattle.guideline.specs.ProofTable.{proof_table, rows_printed, K1, put, same}
+use Rattle.guideline.specs.ProofTable.{proof_table, rows_printed, bytes_printed, K1, put, same}
 use Rattle.guideline.proofs.Opened.{opened}
 use Rattle.guideline.proofs.TwinTraps.{twin_tables}
 use Rattle.guideline.proofs.EditionTraps.{former_117, out_of_range}
@@ -121,6 +123,14 @@ pub counts_of_K1 : T (all_hold (rows_printed proof_table) ranges)
 unfolding opened in_turn counted list_after ranges
 counts_of_K1 = tt
 
+pub counts_of_K1_as_bytes : T (all_hold (spelled (bytes_printed proof_table)) ranges)
+unfolding opened in_turn counted list_after ranges
+counts_of_K1_as_bytes = tt
+
 pub months_in_ranges : T (all_hold (rows_printed twin_tables) ranges_of_months)
 unfolding opened in_turn counted list_after twin_tables ranges_of_months
 months_in_ranges = tt
+
+pub months_in_ranges_as_bytes : T (all_hold (spelled (bytes_printed twin_tables)) ranges_of_months)
+unfolding opened in_turn counted list_after twin_tables ranges_of_months
+months_in_ranges_as_bytes = tt

@@ -70,11 +70,11 @@ quiet_tables T649 =
     ∷ (6 ∷ 0 ∷ 0 ∷ 9000 ∷ [])
     ∷ (7 ∷ 0 ∷ 999_999_999 ∷ 0 ∷ [])
     ∷ []
--- drops in a millilitre (004), and amounts in lowest terms whose products pass 64 bits
+-- drops in a millilitre (004), and amounts whose products pass 64 bits
 quiet_tables T070 = []
 quiet_tables T730 =
     amount 233 1_000 ∷ amount 303 20_000
-    ∷ amount 229 9_991_000_000 ∷ amount 245 9_999_000_001 ∷ []
+    ∷ amount 229 9_991_000_000 ∷ amount 245 9_999_000_000 ∷ []
 
 -- entered in another unit than the base unit
 abbrev in_unit : ℕ → ℕ → (ℕ → ℕ) → ℕ → ℕ

@@ -1,7 +1,7 @@
 // What the steps have chosen, for the steps after them.
 use crate::rows::{Row640, Row641, Row642, Row643, Row649};
 
-// A dose in base units is the dose times `base` over `entered`. Step 2 hands it on in lowest terms (P8).
+// A dose in base units is the dose times `base` over `entered`.
 #[derive(Drop)]
 pub struct Ratio {
     pub base: u64,

@@ -11,7 +11,7 @@ use lib.ListN.{length}
 use Rattle.stream.specs.Entries.{number, entry_length}
 use Rattle.stream.specs.Cases.{table_count, front_length, longest_case, sum_of, start, tables_end, entry_count, entry_size, entry_start, lendable, case_length, Whole, read_on, what_next}
 use Rattle.stream.specs.declared.cases.Form.{Form}
-use Rattle.stream.specs.declared.cases.Form.TheVariants.{Single, Range, Ratio}
+use Rattle.stream.specs.declared.cases.Form.TheVariants.{Single, Range}
 use Rattle.stream.specs.declared.cases.Next.TheVariants.{Read, Answer, Broken}
 
 pub start_next : (b : List ℕ) (k : ℕ) → start b (suc k) ≡ start b k + number b 0 k
@@ -53,12 +53,10 @@ entry_inside f b i h w =
 pub size_most : (f : Form) (n : ℕ) → n < 4_294_967_296 → n * entry_size f < 4_294_967_296 * 128
 size_most Single n h = omega arith
 size_most Range n h = omega arith
-size_most Ratio n h = omega arith
 
 pub size_least : (f : Form) → entry_length ≤ entry_size f
 size_least Single = omega arith
 size_least Range = omega arith
-size_least Ratio = omega arith
 
 -- a case is answered where it is whole
 not_answer : (ended : Bool) (have until : ℕ) → read_on ended have until ≡ Answer → ⊥

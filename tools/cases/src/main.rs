@@ -1,12 +1,12 @@
 //! Commands of the cases.
 
-use cases::generate::{self, calls::CallCase, case::Case, counts::CountCase, ratio::RatioCase};
+use cases::generate::{self, calls::CallCase, case::Case, counts::CountCase};
 use cases::run::compare::{self, input, Programs};
 use cases::run::difference::Report;
 use cases::run::smallest::{unit_file::UnitFile, Piece};
 use cases::run::{
-    again::again, agree, cover, cover_calls, cover_counts, cover_ratios, demand3, edges, searches, store, store_counts,
-    store_ratios, STANDARD_CASES, STANDARD_SEED,
+    again::again, cover, cover_calls, cover_counts, demand3, edges, searches, store, store_counts, STANDARD_CASES,
+    STANDARD_SEED,
 };
 use std::io::{self, Write};
 use std::ops::Range;
@@ -16,24 +16,22 @@ use std::time::Instant;
 
 const HELP: &str = "cases: random and stored cases, and the comparison of a program with the second program on them
 
-  cases generate answers|counts|ratios|units|calls RUN
+  cases generate answers|counts|units|calls RUN
                                    the run's cases, cases of ranges, unit files or calls of files 730 and 070 as one
-                                   input; ratios is asked for the cases of answers
+                                   input
   cases cover RUN                  how often each test gave its answer; fails if one that can occur did not
   cases searches RUN               the case that first tells each wrong search; fails if one is not told
-  cases compare RUN [--answers PROGRAM] [--counts PROGRAM] [--ratios PROGRAM] [--units PROGRAM] [--calls PROGRAM]
+  cases compare RUN [--answers PROGRAM] [--counts PROGRAM] [--units PROGRAM] [--calls PROGRAM]
                                    runs each PROGRAM on the run's cases, unit files or calls, and compares every line
-  cases again answers|counts|ratios|units|calls PROGRAM FILE
+  cases again answers|counts|units|calls PROGRAM FILE
                                    compares PROGRAM on an input, and shows a difference
-  cases edges answers|counts|ratios|units|calls PROGRAM
+  cases edges answers|counts|units|calls PROGRAM
                                    whole and damaged inputs
-  cases agree ANSWERS RATIOS RUN   runs both programs on the run's cases: they end up to step 2 for the same entries,
-                                   and each ratio is that of the two rows in lowest terms
   cases demand3 answers|counts PROGRAM RUN
                                    fills blanks, asks in both editions and reorders rows, judges the answers of
                                    PROGRAM, and compares them
   cases fill answers|counts RUN    the stream demand3 sends
-  cases store answers|counts|ratios|broken|units|calls DIR
+  cases store answers|counts|broken|units|calls DIR
                                    stored vectors: DIR/stdin and DIR/stdout (broken: a folder for each)
 
 Of a difference the smallest case that is found is written into target/difference, or --folder FOLDER, and the command
@@ -51,7 +49,6 @@ struct Arguments {
     first: u64,
     answers: Option<String>,
     counts: Option<String>,
-    ratios: Option<String>,
     units: Option<String>,
     calls: Option<String>,
     folder: Option<String>,
@@ -63,7 +60,6 @@ impl Arguments {
         Programs {
             answers: self.answers.as_deref(),
             counts: self.counts.as_deref(),
-            ratios: self.ratios.as_deref(),
             units: self.units.as_deref(),
             calls: self.calls.as_deref(),
         }
@@ -91,7 +87,6 @@ fn arguments() -> Result<Arguments, String> {
             "--first" => given.first = number()?,
             "--answers" => given.answers = Some(value),
             "--counts" => given.counts = Some(value),
-            "--ratios" => given.ratios = Some(value),
             "--units" => given.units = Some(value),
             "--calls" => given.calls = Some(value),
             "--folder" => given.folder = Some(value),
@@ -135,7 +130,6 @@ fn run(given: &Arguments) -> Result<(), String> {
             println!("{} whole and damaged inputs of {of} as expected", edges::run(program, &inputs)?);
             Ok(())
         }
-        ["agree", answers, ratios] => agreed(answers, ratios, given, numbers),
         ["demand3", of, program] => {
             let start = Instant::now();
             let judged = demand3::run(of, program, given.seed, numbers, &given.report())?;
@@ -155,7 +149,6 @@ fn generated(of: &str, given: &Arguments, numbers: Range<u64>) -> Result<(), Str
     let bytes = match of {
         Case::OF => input::<Case>(given.seed, numbers),
         CountCase::OF => input::<CountCase>(given.seed, numbers),
-        RatioCase::OF => input::<RatioCase>(given.seed, numbers),
         UnitFile::OF => input::<UnitFile>(given.seed, numbers),
         CallCase::OF => input::<CallCase>(given.seed, numbers),
         _ => return Err(format!("cannot generate {of}; see cases --help")),
@@ -164,11 +157,9 @@ fn generated(of: &str, given: &Arguments, numbers: Range<u64>) -> Result<(), Str
 }
 
 fn covered(given: &Arguments) -> Result<(), String> {
-    let (mut coverage, mut ratios) = (cover::Coverage::default(), cover_ratios::Coverage::default());
+    let mut coverage = cover::Coverage::default();
     for number in given.first..given.first + given.cases {
-        let case = generate::case(given.seed, number);
-        coverage.add(&case);
-        ratios.add(&case);
+        coverage.add(&generate::case(given.seed, number));
     }
     let mut counts = cover_counts::Coverage::default();
     let mut calls = cover_calls::Coverage::default();
@@ -178,11 +169,10 @@ fn covered(given: &Arguments) -> Result<(), String> {
     }
     coverage.print();
     counts.print();
-    ratios.print();
     calls.print();
-    match (&coverage.missing()[..], &counts.missing()[..], &ratios.missing()[..], &calls.missing()[..]) {
-        ([], [], [], []) => Ok(()),
-        (cases, counts, ratios, calls) => Err(format!("did not occur: {cases:?} {counts:?} {ratios:?} {calls:?}")),
+    match (&coverage.missing()[..], &counts.missing()[..], &calls.missing()[..]) {
+        ([], [], []) => Ok(()),
+        (cases, counts, calls) => Err(format!("did not occur: {cases:?} {counts:?} {calls:?}")),
     }
 }
 
@@ -210,17 +200,10 @@ fn compared(given: &Arguments) -> Result<(), String> {
     Ok(())
 }
 
-fn agreed(answers: &str, ratios: &str, given: &Arguments, numbers: Range<u64>) -> Result<(), String> {
-    let agreed = agree::run(answers, ratios, given.seed, numbers)?;
-    println!("answers and ratios agree, {} cases: {agreed:?}", given.cases);
-    Ok(())
-}
-
 fn stored(what: &str, dir: &Path) -> Result<(), String> {
     let report = match what {
         "answers" => store::answers(dir),
         "counts" => store_counts::counts(dir),
-        "ratios" => store_ratios::ratios(dir),
         "broken" => store::broken(dir).map(|count| format!("{count} streams")),
         "units" => store::units(dir).map(|count| format!("{count} records")),
         "calls" => store::calls(dir).map(|count| format!("{count} calls")),

@@ -2,7 +2,6 @@
 
 use cases::generate::case::{Case, Numbers};
 use cases::generate::proof_table::{changed, k1, k_case, tables, K};
-use cases::generate::ratio::{DR, GPK_KIND, HPK_KIND, MG, ML, PRK_KIND, ROWS_004, ST, UG};
 use second::check::entry::*;
 use second::check::{check, Entry, Lent, Table};
 use second::record::{calls::calls, list::unit_list, read::read, write::write, Unit};
@@ -30,6 +29,57 @@ fn k1_to_k15_with_all_nine_numbers() {
         assert_eq!(answer, expected.map(|n| n.to_string()).join(" "), "{name}");
     }
 }
+
+const DR: u32 = 303;
+const ML: u32 = 233;
+const ST: u32 = 245;
+const MG: u32 = 229;
+/// The papers print no code for IE and UG: stand-ins.
+const IE: u32 = 900_001;
+const UG: u32 = 900_002;
+const HPK_KIND: u32 = 1;
+const PRK_KIND: u32 = 2;
+const GPK_KIND: u32 = 3;
+
+/// 004, file 730 as printed: kind, code, amount in thousandths, unit.
+const ROWS_004: [(u32, u32, u64, u32); 36] = [
+    (HPK_KIND, 1_709_925, 1_000, ST),
+    (HPK_KIND, 1_709_925, 400_000, MG),
+    (PRK_KIND, 76_686, 1_000, ST),
+    (PRK_KIND, 76_686, 400_000, MG),
+    (GPK_KIND, 122_858, 1_000, ST),
+    (GPK_KIND, 122_858, 400_000, MG),
+    (HPK_KIND, 216_267, 1_000, ML),
+    (HPK_KIND, 216_267, 2_000, MG),
+    (HPK_KIND, 216_267, 20_000, DR),
+    (PRK_KIND, 5_541, 1_000, ML),
+    (PRK_KIND, 5_541, 2_000, MG),
+    (GPK_KIND, 16_004, 1_000, ML),
+    (GPK_KIND, 16_004, 2_000, MG),
+    (HPK_KIND, 709_050, 1_000, ST),
+    (HPK_KIND, 709_050, 3_000, ML),
+    (HPK_KIND, 709_050, 300_000, IE),
+    (PRK_KIND, 65_919, 1_000, ST),
+    (PRK_KIND, 65_919, 3_000, ML),
+    (PRK_KIND, 65_919, 300_000, IE),
+    (GPK_KIND, 111_368, 1_000, ML),
+    (GPK_KIND, 111_368, 100_000, IE),
+    (HPK_KIND, 1_927_043, 1_000, ST),
+    (PRK_KIND, 79_308, 1_000, ST),
+    (GPK_KIND, 124_575, 1_000, ST),
+    (HPK_KIND, 551_805, 1_000, ST),
+    (HPK_KIND, 551_805, 400_000, IE),
+    (HPK_KIND, 551_805, 10_000, UG),
+    (HPK_KIND, 551_805, 10, MG),
+    (PRK_KIND, 21_806, 1_000, ST),
+    (PRK_KIND, 21_806, 400_000, IE),
+    (PRK_KIND, 21_806, 10_000, UG),
+    (PRK_KIND, 21_806, 10, MG),
+    (GPK_KIND, 53_015, 1_000, ST),
+    (GPK_KIND, 53_015, 400_000, ST),
+    (GPK_KIND, 53_015, 10_000, UG),
+    (GPK_KIND, 53_015, 10, MG),
+];
 
 fn with_004() -> Case {
     let mut case = tables();

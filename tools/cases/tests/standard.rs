@@ -2,7 +2,6 @@
 
 use cases::generate::calls::{call_case, stream};
 use cases::generate::counts::{count_case, CountCase};
-use cases::generate::ratio::RatioCase;
 use cases::generate::{self, calls::CallCase, case::Case, full, proof_ranges, proof_table};
 use cases::run::compare::Programs;
 use cases::run::cover::{Coverage, Seen};
@@ -10,14 +9,14 @@ use cases::run::difference::Report;
 use cases::run::searches::{self, Searches};
 use cases::run::smallest::unit_file::UnitFile;
 use cases::run::{
-    again::again, agree, compare, cover_calls, cover_counts, cover_ratios, demand3, edges, store, store_counts,
-    store_ratios, STANDARD_CASES, STANDARD_SEED,
+    again::again, compare, cover_calls, cover_counts, demand3, edges, store, store_counts, STANDARD_CASES,
+    STANDARD_SEED,
 };
 use second::check::entry::{AGE, COUNT, SURFACE, TIME_UNIT, WEIGHT};
 use second::check::test::Shape;
 use second::check::{Table, Test};
 use second::record::{calls::calls, list::unit_list};
-use second::stream::{counts::COUNTS, ratios::RATIOS, run};
+use second::stream::{counts::COUNTS, run};
 use std::fs;
 use std::os::unix::fs::PermissionsExt;
 use std::path::{Path, PathBuf};
@@ -58,23 +57,6 @@ fn the_stored_ranges_have_each_outcome() {
     store_counts::cases().iter().for_each(|case| coverage.add(case));
     let too_long = |table: &Table| cover_counts::Seen::Test(Test::Shape(*table, Shape::TooLong));
     assert_eq!(coverage.missing(), Table::ALL.iter().map(too_long).collect::<Vec<_>>());
-}
-
-/// By fewer cases than the gate compares, which fails where one is missing.
-#[test]
-fn every_ratio_has_each_outcome_early() {
-    for seed in [STANDARD_SEED, 2, 3] {
-        let mut coverage = cover_ratios::Coverage::default();
-        (0..STANDARD_CASES / 4).for_each(|number| coverage.add(&generate::case(seed, number)));
-        assert_eq!(coverage.missing(), [], "seed {seed}");
-    }
-}
-
-#[test]
-fn the_stored_ratios_have_each_outcome() {
-    let mut coverage = cover_ratios::Coverage::default();
-    store_ratios::cases().iter().for_each(|case| coverage.add(&case.0));
-    assert_eq!(coverage.missing(), []);
 }
 
 static STORED: LazyLock<Vec<Case>> = LazyLock::new(store::cases);
@@ -128,19 +110,6 @@ fn the_stored_ranges_are_these_vectors() {
     assert!(cases.len() == store_counts::CASES + later && stdin.len() < 500_000);
     let mut lines = vec![];
     run(&COUNTS, &stdin[..], &mut lines).expect("a slice is read and a vector written");
-    assert!(lines == stdout);
-}
-
-/// K1 to K15 first; the gate runs them too, so that they have to stay few.
-#[test]
-fn the_stored_ratios_are_these_vectors() {
-    let cases = store_ratios::cases();
-    let (stdin, stdout) = store_ratios::stream(&cases);
-    assert!(file("ratios/stdin") == stdin && file("ratios/stdout") == stdout, "run tools/store-cases");
-    assert!(stdin.starts_with(&proof_table::k_case().bytes()) && stdout.ends_with(b"\nbroken\n"));
-    assert!(cases.len() == store_ratios::CASES && stdin.len() + stdout.len() < 300_000);
-    let mut lines = vec![];
-    run(&RATIOS, &stdin[..], &mut lines).expect("a slice is read and a vector written");
     assert!(lines == stdout);
 }
 
@@ -232,20 +201,19 @@ const COMPARED: u64 = 12_000;
 fn comparison(room: &Path, of: &str, program: &str) -> Result<u64, String> {
     let report = Report { folder: room, again: None };
     let given = |wanted: &str| (wanted == of).then_some(program);
-    let [answers, counts, ratios, units, calls] = ALL.map(given);
-    let programs = Programs { answers, counts, ratios, units, calls };
+    let [answers, counts, units, calls] = ALL.map(given);
+    let programs = Programs { answers, counts, units, calls };
     let run = compare::Run { seed: 77, first: 0, cases: COMPARED, quiet: true, programs, report };
-    compare::run(&run).map(|equal| equal.entries + equal.counts + equal.ratios + equal.records + equal.calls)
+    compare::run(&run).map(|equal| equal.entries + equal.counts + equal.records + equal.calls)
 }
 
 /// The commands of the second program.
-const ALL: [&str; 5] = ["answers", "counts", "ratios", "units", "calls"];
+const ALL: [&str; 4] = ["answers", "counts", "units", "calls"];
 
 #[test]
 fn the_program_agrees_with_itself() {
     let room = room("itself");
-    let least = [5 * COMPARED, 15 * COMPARED, 5 * COMPARED, 5 * COMPARED, COMPARED];
-    for (of, lines) in ALL.into_iter().zip(least) {
+    for (of, lines) in ALL.into_iter().zip([5 * COMPARED, 15 * COMPARED, 5 * COMPARED, COMPARED]) {
         assert!(comparison(&room, of, &program(of)).expect("all equal") > lines, "{of}");
         let inputs = edges::inputs(of).expect(of);
         assert_eq!(edges::run(&program(of), &inputs), Ok(inputs.len()));
@@ -313,47 +281,6 @@ fn a_wrong_range_is_told_by_a_small_case() {
     assert!(what.contains("places 2\nsecond:  115 ") && what.contains("\n         100 "), "{what}");
 }
 
-/// Two rows of 730, and an entry.
-const TWO_UNITS: usize = 32 + 20 + 20 + ENTRY;
-
-#[test]
-fn a_wrong_ratio_is_told_by_a_small_case() {
-    // One that does not reduce what is 1 to 2.
-    let (what, length) = told("ratios", "not-reduced", "sed 's/^1 2$/2 4/'");
-    assert_eq!(length, TWO_UNITS, "{what}");
-    assert!(what.contains("second:  1 2\nprogram: 2 4\n"), "{what}");
-    // One that says 1 to 1 where an amount is above.
-    let (what, length) = told("ratios", "above", "sed 's/^128$/1 1/'");
-    assert_eq!(length, TWO_UNITS, "{what}");
-    // One that says nothing of an entry that it refuses.
-    assert_eq!(told("ratios", "refused", "sed '/^133$/d'").1, 32 + 24 + ENTRY);
-    assert_eq!(told("ratios", "no-ratios", "cat >/dev/null").1, 32 + ENTRY);
-}
-
-#[test]
-fn answers_and_ratios_agree_and_others_are_told() {
-    let agreed = agree::run(&program("answers"), &program("ratios"), 6, 0..2_000).expect("they agree");
-    assert!(agreed.refused > 3_000 && agreed.one_unit > 5_000 && agreed.two_units > 5_000, "{agreed:?}");
-    let told = |name: &str, of: &str, filter: &str| {
-        let wrong = wrong(of, &format!("agree-{name}"), filter);
-        let (answers, ratios) = if of == "answers" { (wrong, program("ratios")) } else { (program("answers"), wrong) };
-        agree::run(&answers, &ratios, 6, 0..2_000).expect_err(name)
-    };
-    let exchanged = told("exchanged", "ratios", "awk 'NF == 2 { $0 = $2 \" \" $1 } { print }'");
-    assert!(exchanged.contains("another ratio than that of"), "{exchanged}");
-    let twice = told("twice", "ratios", "awk '$0 == \"1 100\" { $0 = \"2 200\" } { print }'");
-    assert!(twice.contains("is not in lowest terms"), "{twice}");
-    let amounts = told("amounts", "ratios", "sed 's/^1 1$/1000 1000/'");
-    assert!(amounts.contains("one unit is not 1 to 1"), "{amounts}");
-    let other_number = told("other-number", "ratios", "sed 's/^128$/127/'");
-    assert!(other_number.contains("answers ends with 128 up to step 2"), "{other_number}");
-    // A check that ends with 110 in step 2's place.
-    let passes = told("passes", "answers", "sed 's/^126 0 730 /110 0 0 /'");
-    assert!(passes.contains("answers passes step 2, and ratios has no ratio"), "{passes}");
-    let fewer = told("fewer", "ratios", "sed '$d'");
-    assert!(fewer.contains(" lines for "), "{fewer}");
-}
-
 #[test]
 fn a_wrong_record_is_told_by_a_small_input() {
     assert_eq!(told("units", "no-digit", "sed 's/refused 203/refused 202/'").1, 64);
@@ -406,7 +333,6 @@ fn the_same_seed_gives_the_same_stream() {
     assert_eq!(cases(3), cases(3));
     assert_ne!(cases(3), cases(4));
     assert_eq!(compare::input::<CountCase>(3, 20..400), compare::input::<CountCase>(3, 20..400));
-    assert_eq!(compare::input::<RatioCase>(3, 20..400), cases(3));
     assert_ne!(compare::input::<CountCase>(3, 20..400), compare::input::<CountCase>(4, 20..400));
     assert_eq!(compare::input::<UnitFile>(3, 0..50), compare::input::<UnitFile>(3, 0..50));
     assert_eq!(compare::input::<CallCase>(3, 0..50), compare::input::<CallCase>(3, 0..50));

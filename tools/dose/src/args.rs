@@ -24,7 +24,7 @@ pub fn read(words: impl Iterator<Item = OsString>) -> Result<Command, String> {
         Some("help" | "--help" | "-h") => Ok(Command::Help),
         Some("check") => {
             let [tables, entries] = options.files("check TABLES ENTRIES")?;
-            let Options { is_csv, program, counts_program, ratios_program, calls_program, .. } = options;
+            let Options { is_csv, program, counts_program, calls_program, .. } = options;
             let edition = options.edition.unwrap_or(edition::DEFAULT);
             Ok(Command::Check(Check {
                 tables,
@@ -33,7 +33,6 @@ pub fn read(words: impl Iterator<Item = OsString>) -> Result<Command, String> {
                 is_csv,
                 program,
                 counts_program,
-                ratios_program,
                 calls_program,
             }))
         }
@@ -56,7 +55,6 @@ struct Options {
     edition: Option<u64>,
     program: Option<PathBuf>,
     counts_program: Option<PathBuf>,
-    ratios_program: Option<PathBuf>,
     calls_program: Option<PathBuf>,
 }
 
@@ -77,10 +75,6 @@ impl Options {
                     let path = words.next().ok_or("--counts-program needs a PATH")?;
                     options.counts_program = Some(path.into());
                 }
-                Some("--ratios-program") => {
-                    let path = words.next().ok_or("--ratios-program needs a PATH")?;
-                    options.ratios_program = Some(path.into());
-                }
                 Some("--calls-program") => {
                     let path = words.next().ok_or("--calls-program needs a PATH")?;
                     options.calls_program = Some(path.into());
@@ -98,7 +92,6 @@ impl Options {
             ("--csv", self.is_csv),
             ("--edition", self.edition.is_some()),
             ("--counts-program", self.counts_program.is_some()),
-            ("--ratios-program", self.ratios_program.is_some()),
             ("--calls-program", self.calls_program.is_some()),
         ];
         match others.iter().find(|(_, is_given)| *is_given) {

@@ -2,10 +2,10 @@
 
 use crate::answer::Answer;
 use crate::due::{Due, What};
-use crate::lines;
 use crate::program::{self, Proved};
 use crate::progress::Progress;
 use crate::stream::Stream;
+use crate::talk;
 use std::path::{Path, PathBuf};
 
 /// A program with the entries that it is sent and the lines that it owes for them.
@@ -42,14 +42,29 @@ pub fn all<'a>(parts: &'a [Part]) -> Result<Vec<Line<'a>>, String> {
 
 /// One answer for each line that is due, in their order.
 fn ask(program: &Path, part: &Part, progress: &mut Progress) -> Result<Vec<Answer>, String> {
-    lines::owed(program, &part.stream, part.due.len(), |place, line| {
-        let answer = read(line, &part.due[place])?;
+    let (total, entries) = (part.due.len(), part.stream.len());
+    let mut answers = Vec::with_capacity(total);
+    let hear = |line: &str| {
+        let place = format!("line {} of the program {}", answers.len() + 1, program.display());
+        let Some(due) = part.due.get(answers.len()) else {
+            return Err(format!("{place}: `{line}` is one line too many: {entries} entries were sent"));
+        };
+        answers.push(read(line, due).map_err(|what| format!("{place}: {what}"))?);
         progress.one_more();
-        Ok(answer)
-    })
+        Ok(())
+    };
+    talk::run(program, |out| part.stream.write(out), hear)?;
+    if answers.len() < total {
+        let heard = format!("wrote {} lines for {entries} entries", answers.len());
+        return Err(format!("the program {} {heard}, and owes {total}", program.display()));
+    }
+    Ok(answers)
 }
 
 fn read(line: &str, due: &Due) -> Result<Answer, String> {
+    if line == "broken" {
+        return Err("it says `broken`: it did not take the tables and entries it was sent".to_string());
+    }
     let answer = match due.what {
         What::Answer | What::AnswerOf(_) => Answer::read(line)?,
         What::Refusal(range) => Answer::read_refusal(line, range)?,

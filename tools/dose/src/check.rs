@@ -7,7 +7,6 @@ use crate::failure::{Failure, Fault};
 use crate::limits::Limits;
 use crate::links::Links;
 use crate::program::{ANSWERS, COUNTS};
-use crate::ratios::{self, Ratios};
 use crate::records;
 use crate::report;
 use crate::sheet::{self, Names, Sheet};
@@ -24,8 +23,6 @@ pub struct Check {
     /// Where the programs `answers` and `counts` are, if that was said.
     pub program: Option<PathBuf>,
     pub counts_program: Option<PathBuf>,
-    /// Where `ratios` is, if that was said.
-    pub ratios_program: Option<PathBuf>,
     /// Where `record_calls` is, if that was said.
     pub calls_program: Option<PathBuf>,
 }
@@ -40,11 +37,8 @@ pub fn run(check: &Check) -> Result<(), Failure> {
     if entries.len() == 0 {
         eprintln!("dose: {} has no entries", check.entries.display());
     }
-    // found before a program is started, as the others are
-    let units = ratios::question(&bytes, &entries, check.ratios_program.as_deref())?;
     let lines = ask::all(&parts).map_err(Failure::Program)?;
-    let ratios = units.map_or(Ok(Ratios::default()), |units| units.ask(&lines)).map_err(Failure::Program)?;
-    print(check, &tables, &entries, &lines, &ratios)
+    print(check, &tables, &entries, &lines)
         .map_err(|e| Failure::Program(format!("the answers cannot be written: {e}")))
 }
 
@@ -136,16 +130,10 @@ fn parts<'a>(
     Ok(parts)
 }
 
-fn print(
-    check: &Check,
-    tables: &[Sheet],
-    entries: &Sheet,
-    lines: &[Line],
-    ratios: &Ratios,
-) -> io::Result<()> {
+fn print(check: &Check, tables: &[Sheet], entries: &Sheet, lines: &[Line]) -> io::Result<()> {
     let mut out = BufWriter::new(io::stdout().lock());
     if check.is_csv {
-        return report::csv(&mut out, entries, lines, ratios);
+        return report::csv(&mut out, entries, lines);
     }
-    report::readable(&mut out, entries, lines, &Limits::new(table(tables, LIMITS)), ratios)
+    report::readable(&mut out, entries, lines, &Limits::new(table(tables, LIMITS)))
 }

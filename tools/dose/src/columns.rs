@@ -124,7 +124,7 @@ pub const ENTRY: &[Column] = &[
     number("time unit"),
     number("lowest"),
     number("highest"),
-    number(ENTERED_UNIT),
+    number("entered unit"),
     number(BASE_UNIT),
     number("SRTCDE"),
     number("CODE"),
@@ -133,14 +133,13 @@ pub const ENTRY: &[Column] = &[
     or_blank(EDITION),
 ];
 
-// The fields that the front itself reads: to show the limits, the counts, the units and what an HPK brings, and to know
-// where a signal may be suppressed and which signals there are.
+// The fields that the front itself reads: to show the limits, the counts and what an HPK brings, and to know where a
+// signal may be suppressed and which signals there are.
 pub const LIMITS: &str = "649.csv";
 pub const RULE: &str = "GPDDNR";
 pub const NORM_MINIMUM: &str = "norm minimum";
 pub const NORM_MAXIMUM: &str = "norm maximum";
 pub const ABSOLUTE_MAXIMUM: &str = "absolute maximum";
-pub const ENTERED_UNIT: &str = "entered unit";
 pub const BASE_UNIT: &str = "base unit";
 pub const COUNT: &str = "count";
 pub const QUIET: &str = "quiet";

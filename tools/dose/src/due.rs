@@ -52,14 +52,4 @@ impl Due {
     pub fn is_of_range(&self) -> bool {
         !matches!(self.what, What::Answer)
     }
-
-    /// What the line is called: its entry, with the count or the counts of a range.
-    pub fn called(&self, entries: &Sheet) -> String {
-        let entry = entries.called(self.row);
-        match self.what {
-            What::Answer => entry,
-            What::AnswerOf(count) => format!("{entry}, count {count}"),
-            What::Refusal(range) => format!("{entry}, counts {range}"),
-        }
-    }
 }

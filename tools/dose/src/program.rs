@@ -10,13 +10,12 @@ const ROOT_MARK: &str = "crates.txt";
 
 /// A proved program, and the option that names it.
 pub struct Proved {
-    pub name: &'static str,
+    name: &'static str,
     option: &'static str,
 }
 
 pub const ANSWERS: Proved = Proved { name: "answers", option: "--program" };
 pub const COUNTS: Proved = Proved { name: "counts", option: "--counts-program" };
-pub const RATIOS: Proved = Proved { name: "ratios", option: "--ratios-program" };
 pub const UNIT_LIST: Proved = Proved { name: "unit_list", option: "--program" };
 
 /// Beside `answers` it has an option of its own.

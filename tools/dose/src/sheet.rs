@@ -47,12 +47,6 @@ impl Sheet {
         &self.labels[row]
     }
 
-    /// What the row is called where it is spoken of: its name, or its line as such.
-    pub fn called(&self, row: usize) -> String {
-        let line = if self.is_named { "" } else { "line " };
-        format!("{line}{}", self.label(row))
-    }
-
     pub fn ranges(&self) -> &[Option<Range>] {
         &self.ranges
     }

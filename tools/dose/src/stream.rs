@@ -1,8 +1,8 @@
-//! The cases that the proved programs `answers`, `counts` and `ratios` read: numbers of 32 bits, little-endian, CDHOEV
-//! of 64 bits. A case is the seven tables' lengths in bytes, the number of entries, the tables, the entries. In
-//! `counts` each entry is followed by first, last and the places of its list.
+//! The cases that the proved programs `answers` and `counts` read: numbers of 32 bits, little-endian, CDHOEV of 64
+//! bits. A case is the seven tables' lengths in bytes, the number of entries, the tables, the entries. In `counts` each
+//! entry is followed by first, last and the places of its list.
 
-use crate::columns::{Column, Content, COUNT, ENTRY, TABLES};
+use crate::columns::{Column, Content, ENTRY, TABLES};
 use crate::failure::Fault;
 use crate::range::MOST_COUNTS;
 use crate::sheet::Sheet;
@@ -54,19 +54,6 @@ impl Stream<'_> {
             }
         }
         Stream::new(tables, bytes, (ENTRY.len() + AFTER_ENTRY) * NUMBER)
-    }
-
-    /// The entries at these places, for `ratios`, which reads what `answers` reads: so a range goes out as one count.
-    pub fn of_ratios<'a>(tables: &'a Tables, entries: &Sheet, rows: &[usize]) -> Result<Stream<'a>, Fault> {
-        let (count, mut bytes) = (entries.place(COUNT), Vec::new());
-        for &row in rows {
-            let mut cells = entries.row(row).to_vec();
-            if let Some(range) = entries.ranges()[row] {
-                cells[count] = range.stand_in();
-            }
-            bytes.extend(numbers(entries.columns(), &cells));
-        }
-        Stream::new(tables, bytes, ENTRY.len() * NUMBER)
     }
 
     /// The entries over as few cases as hold them. Refused if the tables leave no room for one entry.

@@ -27,11 +27,6 @@ pub const ENTRY_OUT_OF_RANGE: u32 = 125;
 pub const BEFORE_TABLES: [u32; 2] = [ENTRY_OUT_OF_RANGE, RANGE_REFUSED];
 pub const BEFORE_LINKS: [u32; 4] = [121, 122, ENTRY_OUT_OF_RANGE, RANGE_REFUSED];
 
-/// The table of units, and the answers with which the check ends before it has their ratio (P8): 123 only of table 70
-/// or 730.
-pub const UNITS: u32 = 730;
-pub const BEFORE_RATIO: [u32; 8] = [121, 122, SEVERAL, ENTRY_OUT_OF_RANGE, 126, 127, 128, OTHER_THAN_HPK];
-
 /// The refusal of a whole range of counts (P2). It is no answer of a check.
 pub const RANGE_REFUSED: u32 = 131;
 pub const RANGE_REFUSED_MEANS: &str = "first count above the last, or over 16 counts";

@@ -1,7 +1,7 @@
 //! A case has at most 4 MiB: entries are split over cases, and tables that leave no room are refused.
 
 mod common;
-use common::{k1_in_drops, k1_with, sample, Room, ENTRIES, TABLES};
+use common::{k1_with, sample, Room, ENTRIES, TABLES};
 
 const LONGEST_CASE: usize = 4_194_304;
 const HEAD: usize = 32;
@@ -77,24 +77,6 @@ fn many_ranges_are_split_and_keep_their_order() {
     for (i, place) in places_in_two_cases(&heard, count, RANGE).into_iter().enumerate() {
         assert_eq!([0, 4, 8].map(|more| number(&heard, place + ENTRY + more)), [i, i + 1, 16]);
     }
-}
-
-/// `ratios` hears both cases of `answers`, and each entry has the ratio that it says of it.
-#[test]
-fn many_ratios_are_split_and_keep_their_order() {
-    let room = Room::new("many_ratios");
-    let count = 50_000;
-    room.write(ENTRIES, k1_in_drops(&vec![("bed", "2"); count]));
-    room.fake_says(&ANSWER.repeat(count));
-    room.ratios_says(&(1..=count).map(|i| format!("1 {i}\n")).collect::<String>());
-    let ran = room.check(&["--csv"]);
-    assert_eq!(ran.status, 0, "{}", ran.complained);
-    for (i, line) in ran.said.lines().skip(1).enumerate() {
-        assert_eq!(line, format!("bed,100,0,0,1500,33784,1,0,0,0,1,{}", i + 1));
-    }
-    let heard = room.ratios_heard().unwrap();
-    assert_eq!(places_in_two_cases(&heard, count, ENTRY).len(), count);
-    assert!(heard == room.heard().unwrap());
 }
 
 /// A room whose tables have no rows.

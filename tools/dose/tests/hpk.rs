@@ -259,17 +259,12 @@ fn the_columns_of_what_was_brought() {
     assert_eq!(said(&room), format!("{header}\n{numbers}\n"));
 }
 
-/// What `ratios` says of the sample's entries that are checked. The first has two units, and the tenth, which is 133.
-const RATIOS: [&str; 2] =
-    ["1 20,1 1,1 1,1 1,1 1,1 1,133,133,133,133", "1 1,1 1,133,1 1,123,1 1,1 1,125,1 1,133"];
-
 /// A room with the sample, where the programs say what expected.csv has from the papers.
 fn room(test: &str) -> Room {
     let room = Room::new(test);
     TABLES.iter().chain([&ENTRIES]).for_each(|file| room.write(file, hpk(file)));
-    room.ratios_says(&(RATIOS.join(",").replace(',', "\n") + "\n"));
     let expected = hpk("expected.csv");
-    let numbers = |line: &str| program_line(line.rsplitn(5, ',').last().unwrap());
+    let numbers = |line: &str| program_line(line.rsplitn(3, ',').last().unwrap());
     let (ranged, plain): (Vec<&str>, Vec<&str>) =
         expected.lines().skip(1).partition(|line| line.starts_with("range "));
     room.fake_says(&plain.into_iter().map(numbers).collect::<String>());
@@ -282,8 +277,8 @@ fn each_program_hears_its_entries() {
     let room = room("hpk_each_program_hears");
     assert_eq!(room.check(&[]).status, 0);
     let number = |heard: &[u8], place: usize| u32::from_le_bytes(heard[4 * place..][..4].try_into().unwrap());
-    let heard = [room.heard().unwrap(), room.counts_heard().unwrap(), room.ratios_heard().unwrap()];
-    for (heard, entries) in heard.iter().zip([18, 3, 20]) {
+    let heard = [room.heard().unwrap(), room.counts_heard().unwrap()];
+    for (heard, entries) in heard.iter().zip([18, 3]) {
         let lengths: Vec<u32> = (0..8).map(|place| number(heard, place)).collect();
         assert_eq!(lengths, [4 * 12, 6 * 20, 6 * 24, 6 * 40, 6 * 16, 3 * 20, 7 * 24, entries]);
         let links = 8 + lengths[..6].iter().sum::<u32>() as usize / 4;
@@ -292,7 +287,7 @@ fn each_program_hears_its_entries() {
         });
     }
     // The first entry of each: GPK 0, PRK blank, and the HPK.
-    let [plain, ranged, _] = heard;
+    let [plain, ranged] = heard;
     let first = (plain.len() - 18 * 88) / 4;
     assert_eq!([0, 1, 2].map(|place| number(&plain, first + place)), [0, BLANK, 216267]);
     let first = (ranged.len() - 3 * 100) / 4;

@@ -70,7 +70,7 @@ fn a_program_that_is_not_there_or_none() {
 #[test]
 fn wrong_words_on_the_command_line() {
     let room = Room::new("wrong_words");
-    let lines: [&[&str]; 21] = [
+    let lines: [&[&str]; 18] = [
         &[],
         &["chek"],
         &["check"],
@@ -83,14 +83,11 @@ fn wrong_words_on_the_command_line() {
         &["units", "a", "--csv"],
         &["units", "a", "--edition", "1"],
         &["units", "a", "--counts-program", "b"],
-        &["check", "a", "b", "--ratios-program"],
-        &["units", "a", "--ratios-program", "b"],
         &["check", "a", "b", "--calls-program"],
         &["units", "a", "--calls-program", "b"],
         &["products"],
         &["products", "a", "--csv"],
         &["products", "a", "--edition", "2"],
-        &["products", "a", "--ratios-program", "b"],
         &["products", "a", "b"],
     ];
     for words in lines {

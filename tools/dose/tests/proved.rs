@@ -1,8 +1,8 @@
-//! The samples through the proved programs, against the papers. DOSE_ANSWERS, DOSE_COUNTS, DOSE_RATIOS, DOSE_UNIT_LIST
-//! and DOSE_RECORD_CALLS name the programs, which `cargo test -- --include-ignored` then asks.
+//! The samples through the proved programs, against the papers. DOSE_ANSWERS, DOSE_COUNTS, DOSE_UNIT_LIST and
+//! DOSE_RECORD_CALLS name the programs, which `cargo test -- --include-ignored` then asks.
 
 mod common;
-use common::{edition, hpk, months, quiet, ran, ranges, ratio, sample, Room, ENTRIES, SAMPLE};
+use common::{edition, hpk, months, quiet, ran, ranges, sample, Room, ENTRIES, SAMPLE};
 use std::process::Command;
 
 /// The front with these words and the programs that the variables name, each by its option.
@@ -22,7 +22,6 @@ fn said(words: &[&str], programs: &[(&str, &str)]) -> String {
 const TABLES: &str = concat!(env!("CARGO_MANIFEST_DIR"), "/sample/proof-table");
 const ANSWERS: (&str, &str) = ("--program", "DOSE_ANSWERS");
 const COUNTS: (&str, &str) = ("--counts-program", "DOSE_COUNTS");
-const RATIOS: (&str, &str) = ("--ratios-program", "DOSE_RATIOS");
 const UNIT_LIST: (&str, &str) = ("--program", "DOSE_UNIT_LIST");
 const RECORD_CALLS: (&str, &str) = ("--program", "DOSE_RECORD_CALLS");
 const RECORDS: (&str, &str) = ("--calls-program", "DOSE_RECORD_CALLS");
@@ -72,39 +71,27 @@ fn hosts_with_either_set_of_texts() {
     assert_eq!(said(&["check", TABLES, &entries, "--csv"], &programs), edition("expected.csv"));
 }
 
-#[test]
-#[ignore = "needs the proved programs: set DOSE_ANSWERS, DOSE_COUNTS and DOSE_RATIOS"]
-fn the_ratio_of_two_units() {
-    let tables = format!("{SAMPLE}/ratio");
-    let entries = format!("{tables}/entries.csv");
-    let programs = [ANSWERS, COUNTS, RATIOS];
-    assert_eq!(said(&["check", &tables, &entries], &programs), ratio("expected.txt"));
-    assert_eq!(said(&["check", &tables, &entries, "--csv"], &programs), ratio("expected.csv"));
-}
-
 /// The other samples without their column edition: but for the signals of a missing frequency nothing differs.
 #[test]
-#[ignore = "needs the proved programs: set DOSE_ANSWERS, DOSE_COUNTS and DOSE_RATIOS"]
+#[ignore = "needs the proved programs: set DOSE_ANSWERS and DOSE_COUNTS"]
 fn the_samples_in_edition_1() {
     let cut = |line: &str| line.rsplit_once(',').unwrap().0.to_string() + "\n";
     let signals =
         [(",115,24,0,", ",117,8,0,"), (",116,25,0,", ",117,8,0,"), (",0,0,0,115\n", ",0,0,0,117\n")];
     type Sample = fn(&str) -> String;
-    let samples: [(&str, Sample); 6] = [
+    let samples: [(&str, Sample); 5] = [
         ("proof-table", sample),
         ("proof-table", ranges),
         ("proof-table", quiet),
         ("months", months),
         ("hpk", hpk),
-        ("ratio", ratio),
     ];
     for (tables, file) in samples {
         let room = Room::new("the_samples_in_edition_1");
         room.write(ENTRIES, file(ENTRIES).lines().map(cut).collect::<String>());
         let (tables, entries) =
             (format!("{SAMPLE}/{tables}"), room.folder.join(ENTRIES).display().to_string());
-        let words = ["check", &tables, &entries, "--csv", "--edition", "1"];
-        let said = said(&words, &[ANSWERS, COUNTS, RATIOS]);
+        let said = said(&["check", &tables, &entries, "--csv", "--edition", "1"], &[ANSWERS, COUNTS]);
         let replace = |expected: String, (one, other): (&str, &str)| expected.replace(one, other);
         assert_eq!(said, signals.into_iter().fold(file("expected.csv"), replace));
     }
@@ -118,18 +105,18 @@ fn document_004s_rows() {
 }
 
 #[test]
-#[ignore = "needs the proved programs: set DOSE_ANSWERS, DOSE_COUNTS and DOSE_RATIOS"]
+#[ignore = "needs the proved programs: set DOSE_ANSWERS and DOSE_COUNTS"]
 fn the_hpk_brings_its_prk() {
     let tables = format!("{SAMPLE}/hpk");
     let entries = format!("{tables}/entries.csv");
-    let programs = [ANSWERS, COUNTS, RATIOS];
+    let programs = [ANSWERS, COUNTS];
     assert_eq!(said(&["check", &tables, &entries], &programs), hpk("expected.txt"));
     assert_eq!(said(&["check", &tables, &entries, "--csv"], &programs), hpk("expected.csv"));
 }
 
 /// 004's rows as records; the HPK that 070.csv has besides, and twice, then has no row.
 #[test]
-#[ignore = "needs the proved programs: set DOSE_ANSWERS, DOSE_COUNTS, DOSE_RATIOS and DOSE_RECORD_CALLS"]
+#[ignore = "needs the proved programs: set DOSE_ANSWERS, DOSE_COUNTS and DOSE_RECORD_CALLS"]
 fn the_hpk_brings_its_prk_by_records() {
     let room = Room::new("the_hpk_by_records");
     common::TABLES.iter().chain([&ENTRIES]).for_each(|file| room.write(file, hpk(file)));
@@ -137,7 +124,7 @@ fn the_hpk_brings_its_prk_by_records() {
     room.write("BST070T", std::fs::read(format!("{SAMPLE}/products-004/070.txt")).unwrap());
     let (tables, entries) =
         (room.folder.display().to_string(), room.folder.join(ENTRIES).display().to_string());
-    let said = said(&["check", &tables, &entries, "--csv"], &[ANSWERS, COUNTS, RATIOS, RECORDS]);
+    let said = said(&["check", &tables, &entries, "--csv"], &[ANSWERS, COUNTS, RECORDS]);
     assert_eq!(said, hpk("expected.csv").replace("HPK 7000001,2,123,0,70,", "HPK 7000001,2,110,0,0,"));
 }
 

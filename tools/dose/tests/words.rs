@@ -126,6 +126,5 @@ fn the_unit_is_the_base_unit() {
     let room = one_entry("the_unit_is_the_base_unit");
     let entry = "K1,103136,,,240,,75000,,3,0,0,0,2,19,2000,2000,303,245,1,216267,on,2";
     room.write(ENTRIES, format!("{}\n{entry}\n", sample(ENTRIES).lines().next().unwrap()));
-    room.ratios_says("1 20\n");
     assert!(said(&room, "100 0 0 1500 33784 1 0 0 0").contains("limits in unit 245: norm minimum 0.500"));
 }

@@ -1,7 +1,7 @@
 //! The programs that the proved ones are compared with.
 
 use second::record::{calls::calls, list::unit_list};
-use second::stream::{answers::ANSWERS, counts::COUNTS, ratios::RATIOS, run, Program};
+use second::stream::{answers::ANSWERS, counts::COUNTS, run, Program};
 use std::io::{self, BufReader, BufWriter, Read, Write};
 use std::process::ExitCode;
 
@@ -9,7 +9,6 @@ const HELP: &str = "second: the dose check and files 730 and 070, written from t
 
   second answers    cases on standard input, one line of nine numbers per entry
   second counts     cases whose entries have a range of counts, one line of nine numbers per count, or 131 or 132
-  second ratios     the cases of answers, one line per entry: its units' ratio in lowest terms, or a refusal's number
   second units      the unit list of the records on standard input
   second calls      the calls of files 730 and 070 on standard input, one line for each
 ";
@@ -19,7 +18,6 @@ fn main() -> ExitCode {
     let done = match words.iter().map(String::as_str).collect::<Vec<_>>()[..] {
         ["answers"] => cases(&ANSWERS),
         ["counts"] => cases(&COUNTS),
-        ["ratios"] => cases(&RATIOS),
         ["units"] => whole(unit_list),
         ["calls"] => whole(calls),
         ["--help"] => io::stdout().write_all(HELP.as_bytes()),

@@ -3,7 +3,7 @@ use Prim.Native.Nat.{◌≤◌}
 use borrow.Author.Rules.{rules}
 use Rattle.stream.specs.Cases.{entry_count, most_places, wanted_of, lendable}
 use Rattle.stream.proofs.Lists.{list_lendable}
-use Rattle.case_lines.proofs.Tables.{single_lines, range_lines_of, ratio_lines}
+use Rattle.case_lines.proofs.Tables.{single_lines, range_lines_of}
 use Rattle.case_lines.proofs.put_entry.Statement.{statement}
 use Rattle.case_lines.proofs.put_entry.Tie as tie
 
@@ -33,11 +33,6 @@ put-requires-2 c κs =
     let pre = c.before.before.before.before.before.before.before.before.before.before.before.before.before.before.requires in
     (rw pre.3 pre.2, short c, rw c.before.before.enum-told2.given.1 at pre.4)
 
-put-requires-3 : tie.Need-put-requires-3
-put-requires-3 c κs =
-    let pre = c.before.before.before.before.before.before.before.before.before.before.before.before.before.requires in
-    (rw pre.3 pre.2, rw c.before.enum-told3.given.1 at pre.4)
-
 returns : tie.Need-returns
 returns c =
     let a = c.before.before.before.before.before.before.before.before.before.before.before.before.before.before.before.before.args in
@@ -52,13 +47,6 @@ returns-2 c =
     let lines = range_lines_of a.form a.case.now a.i form c.before.before.before.before.before.before.before.before.before.before.before.before.before.before.before.before.before.requires.3 c.before.before.before.before.before.before.before.entry.ensures c.before.before.before.before.wanted_of.ensures in
     (rw lines at c.before.before.put2.ensures.0, rw form c.before.before.put2.ensures.1)
 
-returns-3 : tie.Need-returns-3
-returns-3 c =
-    let a = c.before.before.before.before.before.before.before.before.before.before.before.before.before.before.before.before.args in
-    let form = c.before.before.before.before.enum-told3.given.1 in
-    let lines = ratio_lines a.form a.case.now a.i form c.before.before.before.before.before.before.before.before.before.before.before.before.before.before.before.before.requires.3 c.before.before.before.before.before.before.entry.ensures in
-    (rw lines at c.before.before.put3.ensures.0, rw form c.before.before.put3.ensures.1)
-
 pub put-entry-spec : {M : Type 1} → statement M
 put-entry-spec =
     tie.close
@@ -70,10 +58,6 @@ put-entry-spec =
     wanted-of-requires
     put-requires-2
     (λ c. search rules)
-    put-requires-3
-    (λ c. search rules)
     returns
     (λ c. search rules)
-    returns-2
-    (λ c. search rules)
-    returns-3)
+    returns-2)

@@ -34,7 +34,7 @@ returns c =
     let b = lents a.t640.now a.t641.now a.t642.now a.t643.now a.t649.now a.t730.now a.t070.now in
     let t = spelled b in
     c.refused.ensures
-    ∙ ap₂ refused (at-ending.refusal.ensures ∙ ap ending_of at_told.enum_told.given.1) at-nothing.nothing.ensures
+    ∙ ap₂ refused (at-ending.ending_of.ensures ∙ ap ending_of at_told.enum_told.given.1) at-nothing.nothing.ensures
     ∙ sym (ap (λ (o : Outcome Reached Entry). answer (after o (from_step_2 t))) (step_refused no_data nothing (sound t) _ (sound_run no_data t ∙ ap outcome_of (refused_failed b at-start.pre.0 at_told.enum_told.given.1))))
 
 from-filling-requires : tie.Need-from-filling-requires

@@ -10,7 +10,7 @@ use Rattle.guideline.proofs.Run.{step_refused, step_chosen}
 use Rattle.cells.specs.Lents.{rows}
 use Rattle.units.specs.Converting.{refusal}
 use Rattle.units.proofs.InRange.{ratio_in_range}
-use Rattle.units.proofs.Told.{told_unit}
+use Rattle.dosecheck.proofs.Told.{told_unit}
 use Rattle.dosecheck.proofs.from_unit.Statement.{statement}
 use Rattle.dosecheck.proofs.from_unit.Tie as tie
 

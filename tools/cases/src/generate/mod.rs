@@ -18,7 +18,6 @@ mod plain;
 pub mod proof_ranges;
 pub mod proof_table;
 pub mod quiet;
-pub mod ratio;
 pub mod records;
 pub mod space;
 mod spread;
@@ -42,18 +41,8 @@ pub const FULL_CASES: std::ops::Range<u64> =
 
 /// Case `number` of the run: K1 to K15 first, long tables next, then directed and plain cases in turn, the first of
 /// them with a full category besides; their rows as they were made, or in the order of their keys; each entry with an
-/// edition; some with units to reduce.
+/// edition.
 pub fn case(seed: u64, number: u64) -> Case {
-    let mut case = before_p8(seed, number);
-    add_ratios(&mut case, seed, number);
-    if FULL_CASES.contains(&(number % ROUND)) {
-        ratio::over_full(&mut case);
-    }
-    case
-}
-
-/// Before units had something to reduce.
-fn before_p8(seed: u64, number: u64) -> Case {
     let mut case = before_p7(seed, number);
     add_editions(&mut case, seed, number);
     if FULL_CASES.contains(&(number % ROUND)) {
@@ -83,16 +72,7 @@ pub fn light_case(seed: u64, number: u64) -> Case {
     let mut case = fitted(light_made(seed, number), seed, number);
     put_in_order(&mut case, &mut ordering(seed, number));
     add_editions(&mut case, seed, number);
-    add_ratios(&mut case, seed, number);
     case
-}
-
-/// Three in ten of the cases: rows of 730, and entries behind the others. From random numbers of their own too.
-fn add_ratios(case: &mut Case, seed: u64, number: u64) {
-    let r = &mut Random::of_case(seed ^ 0x7261_7469, number);
-    if number % ROUND > *LONG_CASES.end() && r.percent(30) {
-        ratio::add(case, r);
-    }
 }
 
 /// From random numbers of their own, so that all else of the case stays.
@@ -198,7 +178,7 @@ mod tests {
     use super::*;
     use crate::run::answers_of;
     use second::check::entry::{EDITION, EDITION_2};
-    use second::check::{check, Entry, Lent, Table, NUMBERS};
+    use second::check::{check, Entry, Lent, NUMBERS};
     use second::stream::{parts, Header, HEADER};
 
     /// The directed cases rest on this: a model is compared, where no end that does not count is met.
@@ -238,7 +218,7 @@ mod tests {
     fn editions_are_put_on_top() {
         let mut all = [0; 2];
         for number in 0..3_000 {
-            let (before, mut case) = (before_p7(8, number), before_p8(8, number));
+            let (before, mut case) = (before_p7(8, number), case(8, number));
             let there = before.entries.len();
             let mut seen = vec![];
             for entry in &mut case.entries {
@@ -252,23 +232,6 @@ mod tests {
             });
         }
         assert!(all[0] > 10_000 && all[0].abs_diff(all[1]) < 1_000, "{all:?}");
-    }
-
-    /// P8 puts rows into 730, and entries behind the others; these keep their lines.
-    #[test]
-    fn units_to_reduce_are_put_on_top() {
-        let mut added = 0;
-        for number in 0..3_000 {
-            let (before, mut case) = (before_p8(8, number), case(8, number));
-            let (there, lines) = (before.entries.len(), numbers(&before));
-            assert_eq!(numbers(&case)[..there], lines, "case {number}");
-            added += case.entries.len() - there;
-            case.entries.truncate(there);
-            let is_of_p8 = |row: &[u64]| (ratio::KEY as u64..ratio::KEY as u64 + 10).contains(&row[1]);
-            case.rows(Table::T730).retain(|row| !is_of_p8(row));
-            assert!(case.bytes() == before.bytes(), "case {number}");
-        }
-        assert!(added > 3_000, "{added}");
     }
 
     /// By steps 7 and 11 of document 01.

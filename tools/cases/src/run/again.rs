@@ -2,17 +2,16 @@
 
 use super::difference::both;
 use super::smallest::{compared, unit_file::UnitFile, Outcome, Piece};
-use crate::generate::{calls::CallCase, case::Case, counts::CountCase, ratio::RatioCase};
+use crate::generate::{calls::CallCase, case::Case, counts::CountCase};
 
 /// Compares a program with the second program on an input; the difference is an error.
 pub fn again(of: &str, program: &str, input: &[u8]) -> Result<(), String> {
     match of {
         Case::OF => pieces::<Case>(program, input),
         CountCase::OF => pieces::<CountCase>(program, input),
-        RatioCase::OF => pieces::<RatioCase>(program, input),
         UnitFile::OF => pieces::<UnitFile>(program, input),
         CallCase::OF => pieces::<CallCase>(program, input),
-        _ => Err(format!("{of}: neither answers nor counts nor ratios nor units nor calls")),
+        _ => Err(format!("{of}: neither answers nor counts nor units nor calls")),
     }
 }
 

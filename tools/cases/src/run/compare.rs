@@ -1,9 +1,8 @@
 //! Bulk comparison of another program with the second program, line by line.
 
-use super::cover_ratios::Coverage;
 use super::difference::{difference, Report};
 use super::smallest::{compared, unit_file::UnitFile, Outcome, Piece};
-use crate::generate::{calls::CallCase, case::Case, counts::CountCase, ratio::RatioCase};
+use crate::generate::{calls::CallCase, case::Case, counts::CountCase};
 use std::ops::Range;
 use std::time::Instant;
 
@@ -26,35 +25,30 @@ pub struct Run<'a> {
 pub struct Programs<'a> {
     pub answers: Option<&'a str>,
     pub counts: Option<&'a str>,
-    pub ratios: Option<&'a str>,
     pub units: Option<&'a str>,
     pub calls: Option<&'a str>,
 }
 
 impl Programs<'_> {
     pub fn are_none(&self) -> bool {
-        [self.answers, self.counts, self.ratios, self.units, self.calls].iter().all(Option::is_none)
+        [self.answers, self.counts, self.units, self.calls].iter().all(Option::is_none)
     }
 }
 
-/// Lines that were equal: one for each entry, one for each count of a range or its refusal, one for each entry's ratio
-/// or refusal, one for each record of the unit files, one for each call of files 730 and 070.
+/// Lines that were equal: one for each entry, one for each count of a range or its refusal, one for each record of the
+/// unit files, one for each call of files 730 and 070.
 #[derive(Default)]
 pub struct Equal {
     pub entries: u64,
     pub counts: u64,
-    pub ratios: u64,
     pub records: u64,
     pub calls: u64,
 }
 
 impl std::fmt::Display for Equal {
     fn fmt(&self, f: &mut std::fmt::Formatter) -> std::fmt::Result {
-        let Equal { entries, counts, ratios, records, calls } = self;
-        write!(
-            f,
-            "{entries} entries, {counts} lines of ranges, {ratios} of ratios, {records} unit records and {calls} calls"
-        )
+        let Equal { entries, counts, records, calls } = self;
+        write!(f, "{entries} entries, {counts} lines of ranges, {records} unit records and {calls} calls")
     }
 }
 
@@ -65,10 +59,9 @@ pub fn run(run: &Run) -> Result<Equal, String> {
     let end = run.first + run.cases;
     for (batch, first) in (run.first..end).step_by(BATCH as usize).enumerate() {
         let numbers = first..end.min(first + BATCH);
-        let Programs { answers, counts, ratios, units, calls } = run.programs;
+        let Programs { answers, counts, units, calls } = run.programs;
         equal.entries += lines::<Case>(run, answers, numbers.clone())?;
         equal.counts += lines::<CountCase>(run, counts, numbers.clone())?;
-        equal.ratios += lines::<RatioCase>(run, ratios, numbers.clone())?;
         equal.records += lines::<UnitFile>(run, units, numbers.clone())?;
         equal.calls += lines::<CallCase>(run, calls, numbers)?;
         if batch as u64 % PROGRESS == PROGRESS - 1 && !run.quiet {
@@ -76,20 +69,7 @@ pub fn run(run: &Run) -> Result<Equal, String> {
             eprintln!("{done} of {} cases, {equal} equal, {:.0?}", run.cases, start.elapsed());
         }
     }
-    if run.programs.ratios.is_some() && run.first == 0 && run.cases >= BATCH {
-        reaches_each_ratio(run.seed, BATCH)?;
-    }
     Ok(equal)
-}
-
-/// A first batch has to reach all that `ratios` can be asked; fewer cases may miss some of it by chance.
-fn reaches_each_ratio(seed: u64, cases: u64) -> Result<(), String> {
-    let mut coverage = Coverage::default();
-    (0..cases).for_each(|number| coverage.add(&Case::of_run(seed, number)));
-    match &coverage.missing()[..] {
-        [] => Ok(()),
-        missing => Err(format!("of ratios did not occur in the first {cases} cases of seed {seed}: {missing:?}")),
-    }
 }
 
 /// The number of lines that were equal; none without a program.
@@ -114,16 +94,4 @@ fn lines<P: Piece>(run: &Run, program: Option<&str>, numbers: Range<u64>) -> Res
 pub fn input<P: Piece>(seed: u64, numbers: Range<u64>) -> Vec<u8> {
     let numbers = P::in_order(seed, numbers).into_iter();
     P::joined(&numbers.map(|number| P::of_run(seed, number)).collect::<Vec<P>>())
-}
-
-#[cfg(test)]
-mod tests {
-    use super::*;
-
-    #[test]
-    fn a_run_that_misses_a_ratio_is_told() {
-        let what = reaches_each_ratio(1, 15).expect_err("no case has two units to reduce");
-        assert!(what.contains("Reduced(OneToMore, Thousand)") && !what.contains("Then(Same, Compared)"), "{what}");
-        assert_eq!(reaches_each_ratio(1, BATCH), Ok(()));
-    }
 }

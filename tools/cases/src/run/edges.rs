@@ -1,46 +1,33 @@
 //! Whole and damaged streams of cases, and unit files: where a stream may end, and how long a case may be.
 
-use super::{edges_calls, edges_counts, edges_ratios, program};
+use super::{edges_calls, edges_counts, program};
 use crate::generate::case::Case;
 use crate::generate::proof_table::{k1, tables};
 use second::check::Table;
 use second::stream::{CASE_MOST, ENTRY, HEADER};
 
+const ANSWER: &str = "100 0 0 1500 33784 1 0 0 0\n";
 pub const BROKEN: &str = "broken\n";
 
 /// A name, a stream, and the output it must give.
 pub type Edge = (String, Vec<u8>, String);
 
-/// What a program writes for K1, and for a table that is not whole rows.
-pub struct Lines {
-    pub k1: &'static str,
-    pub not_whole: fn(u32) -> String,
-}
-
-const ANSWERS: Lines =
-    Lines { k1: "100 0 0 1500 33784 1 0 0 0\n", not_whole: |table| format!("121 0 {table} 0 0 0 0 0 0\n") };
-
 /// Streams of cases.
 pub fn streams() -> Vec<Edge> {
-    streams_of(&ANSWERS)
-}
-
-/// Of a program that reads the cases of `answers`.
-pub fn streams_of(lines: &Lines) -> Vec<Edge> {
     let mut case = tables();
     case.entries = vec![k1()];
     let whole = case.bytes();
     let mut all = vec![
         ("empty".to_string(), vec![], String::new()),
         ("no rows and no entries".to_string(), vec![0; HEADER], String::new()),
-        ("two cases".to_string(), [&whole[..], &whole].concat(), lines.k1.repeat(2)),
+        ("two cases".to_string(), [&whole[..], &whole].concat(), ANSWER.repeat(2)),
     ];
     for end in cuts(whole.len()) {
         all.push((format!("cut after {end} bytes"), whole[..end].to_vec(), BROKEN.to_string()));
         let behind = [&whole[..], &whole[..end]].concat();
-        all.push((format!("cut {end} bytes into the second case"), behind, lines.k1.to_string() + BROKEN));
+        all.push((format!("cut {end} bytes into the second case"), behind, ANSWER.to_string() + BROKEN));
     }
-    all.extend(sizes(&case, &whole, lines));
+    all.extend(sizes(&case, &whole));
     all
 }
 
@@ -51,7 +38,7 @@ fn cuts(whole: usize) -> impl Iterator<Item = usize> {
 }
 
 /// The 4 MiB count the header, all tables and the entries.
-fn sizes(case: &Case, whole: &[u8], lines: &Lines) -> Vec<Edge> {
+fn sizes(case: &Case, whole: &[u8]) -> Vec<Edge> {
     let mut all: Vec<Edge> = vec![];
     let room = CASE_MOST as usize - whole.len();
     for table in [Table::T730, Table::T70] {
@@ -60,13 +47,13 @@ fn sizes(case: &Case, whole: &[u8], lines: &Lines) -> Vec<Edge> {
         all.push((
             format!("a case of 4 MiB, most of it {number}"),
             [&case.bytes()[..], whole].concat(),
-            (lines.not_whole)(number) + lines.k1,
+            format!("121 0 {number} 0 0 0 0 0 0\n{ANSWER}"),
         ));
         case.rows(table).tail.push(7);
         all.push((
             format!("a case of 4 MiB and one byte, most of it {number}"),
             [whole, &case.bytes()].concat(),
-            lines.k1.to_string() + BROKEN,
+            ANSWER.to_string() + BROKEN,
         ));
     }
     for place in 0..HEADER / 4 {
@@ -120,7 +107,6 @@ pub fn inputs(of: &str) -> Option<Vec<Edge>> {
     match of {
         "answers" => Some(streams()),
         "counts" => Some(edges_counts::streams()),
-        "ratios" => Some(edges_ratios::streams()),
         "units" => Some(unit_files()),
         "calls" => Some(edges_calls::streams()),
         _ => None,

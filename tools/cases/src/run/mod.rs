@@ -1,18 +1,15 @@
 //! Runs over many cases.
 
 pub mod again;
-pub mod agree;
 pub mod compare;
 pub mod cover;
 pub mod cover_calls;
 pub mod cover_counts;
-pub mod cover_ratios;
 pub mod demand3;
 pub mod difference;
 pub mod edges;
 pub mod edges_calls;
 pub mod edges_counts;
-pub mod edges_ratios;
 pub mod edition;
 pub mod exchange;
 pub mod fillings;
@@ -20,13 +17,11 @@ pub mod hpk;
 pub mod lies;
 pub mod program;
 pub mod quiet;
-pub mod ratio;
 pub mod searches;
 pub mod show;
 pub mod smallest;
 pub mod store;
 pub mod store_counts;
-pub mod store_ratios;
 
 use crate::generate::case::{Case, Numbers};
 use second::check::filling::filled;

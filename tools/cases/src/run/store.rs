@@ -24,7 +24,7 @@ pub const SEED: u64 = 730;
 /// So many cases are stored before those that look for keys.
 pub const CASES: usize = 3_500;
 /// Rows of the longest table of those whose keys are looked for one by one.
-pub(super) const LENGTHS: u64 = 6;
+const LENGTHS: u64 = 6;
 /// Numbers of cases, and of cases of calls, that showed something new of SEED's first 12,000, in the coverage or by
 /// telling a wrong version that none before told.
 const CHOSEN_CASES: &str = include_str!("../../stored/cases");

@@ -13,8 +13,6 @@ pub const SAMPLE: &str = concat!(env!("CARGO_MANIFEST_DIR"), "/sample");
 pub const FAKE: &str = concat!(env!("CARGO_MANIFEST_DIR"), "/tests/fake.sh");
 /// Stands in for the program `counts`.
 pub const FAKE_COUNTS: &str = concat!(env!("CARGO_MANIFEST_DIR"), "/tests/fake_counts.sh");
-/// Stands in for the program `ratios`.
-pub const FAKE_RATIOS: &str = concat!(env!("CARGO_MANIFEST_DIR"), "/tests/fake_ratios.sh");
 /// Stands in for the program `record_calls`.
 pub const FAKE_CALLS: &str = concat!(env!("CARGO_MANIFEST_DIR"), "/tests/fake_calls.sh");
 
@@ -40,7 +38,6 @@ impl Room {
         }
         room.fake_says(&paper_lines());
         room.counts_says("");
-        room.ratios_says("");
         room.calls_says("");
         room
     }
@@ -57,10 +54,6 @@ impl Room {
         self.write("counts_says", lines);
     }
 
-    pub fn ratios_says(&self, lines: &str) {
-        self.write("ratios_says", lines);
-    }
-
     pub fn calls_says(&self, lines: &str) {
         self.write("calls_says", lines);
     }
@@ -71,10 +64,8 @@ impl Room {
 
     /// `dose check` over the room's files.
     pub fn check(&self, more: &[&str]) -> Ran {
-        let mut command = self.check_without_programs();
-        command.args(["--program", FAKE, "--counts-program", FAKE_COUNTS]);
-        command.args(["--ratios-program", FAKE_RATIOS, "--calls-program", FAKE_CALLS]);
-        ran(command.args(more))
+        let programs = ["--program", FAKE, "--counts-program", FAKE_COUNTS, "--calls-program", FAKE_CALLS];
+        ran(self.check_without_programs().args(programs).args(more))
     }
 
     pub fn check_without_programs(&self) -> Command {
@@ -94,9 +85,7 @@ impl Room {
     /// The front, with the fake programs' orders; what they heard before is forgotten.
     pub fn dose(&self) -> Command {
         let mut command = Command::new(env!("CARGO_BIN_EXE_dose"));
-        let fakes =
-            [("FAKE", ""), ("FAKE_COUNTS", "counts_"), ("FAKE_RATIOS", "ratios_"), ("FAKE_CALLS", "calls_")];
-        for (of, file) in fakes {
+        for (of, file) in [("FAKE", ""), ("FAKE_COUNTS", "counts_"), ("FAKE_CALLS", "calls_")] {
             let heard = self.folder.join(format!("{file}heard"));
             let _ = fs::remove_file(&heard);
             command.env(format!("{of}_HEARD"), heard);
@@ -115,11 +104,6 @@ impl Room {
         fs::read(self.folder.join("counts_heard")).ok()
     }
 
-    /// What the fake program `ratios` heard, if it was started.
-    pub fn ratios_heard(&self) -> Option<Vec<u8>> {
-        fs::read(self.folder.join("ratios_heard")).ok()
-    }
-
     /// What the fake program `record_calls` heard, if it was started.
     pub fn calls_heard(&self) -> Option<Vec<u8>> {
         fs::read(self.folder.join("calls_heard")).ok()
@@ -130,8 +114,7 @@ impl Room {
         let ran = self.check(&[]);
         assert_eq!(ran.status, 2, "{words:?}: {}", ran.complained);
         assert_eq!(ran.said, "", "{words:?}");
-        let heard = [self.heard(), self.counts_heard(), self.ratios_heard()];
-        assert_eq!(heard, [None, None, None], "{words:?}: a program was started");
+        assert!(self.heard().is_none() && self.counts_heard().is_none(), "{words:?}: a program was started");
         assert!(ran.complained.contains("nothing was checked"), "{}", ran.complained);
         for word in words {
             assert!(ran.complained.contains(word), "`{word}` is not in:\n{}", ran.complained);
@@ -178,11 +161,6 @@ pub fn hpk(file: &str) -> String {
     fs::read_to_string(Path::new(SAMPLE).join("hpk").join(file)).unwrap()
 }
 
-/// A file of the sample with two units.
-pub fn ratio(file: &str) -> String {
-    fs::read_to_string(Path::new(SAMPLE).join("ratio").join(file)).unwrap()
-}
-
 /// The header of the proof table's entries, then K1 under each of these names with this count.
 pub fn k1_with(counts: &[(&str, &str)]) -> String {
     let entry = |(name, count): &(&str, &str)| {
@@ -190,11 +168,6 @@ pub fn k1_with(counts: &[(&str, &str)]) -> String {
     };
     let header = sample(ENTRIES).lines().next().unwrap().to_string();
     format!("{header}\n{}", counts.iter().map(entry).collect::<String>())
-}
-
-/// The same, entered in drops (303), where the base unit is millilitre (233).
-pub fn k1_in_drops(counts: &[(&str, &str)]) -> String {
-    k1_with(counts).replace(",233,233,0,0,", ",303,233,1,216267,")
 }
 
 /// K1 with these counts, these columns behind CODE and these cells in them.

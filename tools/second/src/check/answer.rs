@@ -1,6 +1,6 @@
 //! The nine numbers, with the test that gave them and the ways the steps went.
 
-use super::{text, Compared, Filled, Ratio, Test, Ways};
+use super::{text, Compared, Filled, Test, Ways};
 
 /// Numbers of an answer.
 pub const NUMBERS: usize = 9;
@@ -19,8 +19,6 @@ pub struct Found {
     pub suppressed: u32,
     /// The entry after P5's filling.
     pub filled: Option<Filled>,
-    /// What step 2 handed on.
-    pub ratio: Option<Ratio>,
     pub ways: Ways,
 }
 
@@ -31,8 +29,6 @@ pub struct Answer {
     pub test: Test,
     /// The entry after P5's filling; none where a test before it refused.
     pub filled: Option<Filled>,
-    /// What step 2 handed on (P8); none where a test up to it refused.
-    pub ratio: Option<Ratio>,
     pub ways: Ways,
     pub compared: Option<Compared>,
 }
@@ -41,17 +37,17 @@ impl Answer {
     /// Of every test but the comparison.
     pub fn refused(test: Test, found: &Found) -> Answer {
         let text = text::of_refusal(test);
-        let Found { suppressed, filled, ratio, ways, .. } = *found;
+        let Found { suppressed, filled, .. } = *found;
         let numbers = [test.answer(), text, test.table(), found.basis, found.category, found.rule, 0, 0, suppressed];
-        Answer { numbers, test, filled, ratio, ways, compared: None }
+        Answer { numbers, test, filled, ways: found.ways, compared: None }
     }
 
     pub fn compared(compared: Compared, found: &Found) -> Answer {
         let Compared { high, low, gprisc, .. } = compared;
         let text = text::of_compared(high, low, gprisc);
         let numbers = [100, text, 0, found.basis, found.category, found.rule, high, low, 0];
-        let Found { filled, ratio, ways, .. } = *found;
-        Answer { numbers, test: Test::Compared, filled, ratio, ways, compared: Some(compared) }
+        let (filled, ways) = (found.filled, found.ways);
+        Answer { numbers, test: Test::Compared, filled, ways, compared: Some(compared) }
     }
 
     pub fn line(&self, out: &mut Vec<u8>) {
@@ -60,12 +56,12 @@ impl Answer {
 }
 
 /// Numbers with one space between, ended by a line feed.
-pub fn push_line<N: Copy + Into<u64>>(numbers: &[N], out: &mut Vec<u8>) {
+pub fn push_line(numbers: &[u32], out: &mut Vec<u8>) {
     for (place, number) in numbers.iter().enumerate() {
         if place > 0 {
             out.push(b' ');
         }
-        push_number(out, (*number).into());
+        push_number(out, *number as u64);
     }
     out.push(b'\n');
 }

@@ -11,7 +11,6 @@ pub mod filling;
 mod frequency;
 mod level;
 mod limits;
-mod lowest;
 mod measures;
 mod product;
 mod quiet;
@@ -52,7 +51,6 @@ fn steps(lent: &Lent, entry: &Entry, found: &mut Found) -> Result<Compared, Test
     found.filled = Some(filled);
     let entry = &filled.entry;
     let ratio = unit::ratio(&lent.t730, entry)?;
-    found.ratio = Some(ratio);
     found.ways.unit = if entry.entered_unit == entry.base_unit { Unit::Same } else { Unit::Converted };
     let product = product::product(&lent.t640, entry)?;
     let age = product::patient(product, entry)?;

@@ -1,7 +1,6 @@
 //! Step 2: the ratio from the entered unit to the base unit.
 
 use super::entry::Entry;
-use super::lowest::lowest_terms;
 use super::tables::Row730;
 use super::test::{Amount, Test};
 
@@ -15,7 +14,6 @@ pub struct Ratio {
     pub entered: u64,
 }
 
-/// In lowest terms (P8); 127 and 128 are judged on the amounts as they stand in 730.
 pub fn ratio(t730: &[Row730], entry: &Entry) -> Result<Ratio, Test> {
     if entry.entered_unit == entry.base_unit {
         return Ok(Ratio { base: 1, entered: 1 });
@@ -30,7 +28,7 @@ pub fn ratio(t730: &[Row730], entry: &Entry) -> Result<Ratio, Test> {
     if let Some(which) = which(base > AMOUNT_MOST, entered > AMOUNT_MOST) {
         return Err(Test::AmountAbove(which));
     }
-    Ok(lowest_terms(Ratio { base, entered }))
+    Ok(Ratio { base, entered })
 }
 
 fn amount(of_code: &[&Row730], unit: u32, absent: Test, several: Test) -> Result<u64, Test> {

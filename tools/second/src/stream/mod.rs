@@ -2,7 +2,6 @@
 
 pub mod answers;
 pub mod counts;
-pub mod ratios;
 
 use crate::check::entry::FIELDS;
 use crate::check::{Lent, TABLES};

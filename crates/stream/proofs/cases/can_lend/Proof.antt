@@ -15,9 +15,5 @@ returns c = rw c.enum_told.given.1 refl
 returns-2 : tie.Need-returns-2
 returns-2 c = rw c.before.enum-told2.given.1 c.lists_lendable.ensures
 
-returns-3 : tie.Need-returns-3
-unfolding lendable
-returns-3 c = rw c.enum-told3.given.1 refl
-
 pub can-lend-spec : {M : Type 1} → statement M
-can-lend-spec = tie.close (tie.spec (λ c. search rules) (λ c. search rules) lists-lendable-requires (λ c. search rules) returns returns-2 returns-3)
+can-lend-spec = tie.close (tie.spec (λ c. search rules) (λ c. search rules) lists-lendable-requires returns returns-2)

@@ -17,19 +17,11 @@ mul-result-2 c =
     let fits : c.before.before.args.n * (entry_length + 3 * 4) < 18_446_744_073_709_551_616 = rw c.enum-told2.given.1 at c.before.before.requires in
     omega arith
 
-mul-result-3 : tie.Need-overflow-mul-result-3
-mul-result-3 c =
-    let fits : c.before.before.args.n * entry_length < 18_446_744_073_709_551_616 = rw c.enum-told3.given.1 at c.before.before.requires in
-    omega arith
-
 returns : tie.Need-returns
 returns c = rw c.enum_told.given.1 refl
 
 returns-2 : tie.Need-returns-2
 returns-2 c = rw c.enum-told2.given.1 refl
 
-returns-3 : tie.Need-returns-3
-returns-3 c = rw c.enum-told3.given.1 refl
-
 pub size-spec : {M : Type 1} → statement M
-size-spec = tie.close (tie.spec (λ c. search rules) mul-result (λ c. search rules) (λ c. search rules) mul-result-2 (λ c. search rules) mul-result-3 returns returns-2 returns-3)
+size-spec = tie.close (tie.spec (λ c. search rules) mul-result (λ c. search rules) (λ c. search rules) mul-result-2 returns returns-2)

@@ -1,8 +1,8 @@
 //! The dose of an entry to the norm maxima that 001, 3.4.2, compares it with.
 
-use crate::generate::case::Numbers;
-use second::check::entry::COUNT;
-use second::check::Ratio;
+use crate::generate::case::{Case, Numbers};
+use second::check::entry::{BASE_UNIT, CODE, COUNT, ENTERED_UNIT, SRTCDE};
+use second::check::Table;
 
 /// Columns of 649.
 const MINIMUM: usize = 1;
@@ -55,9 +55,11 @@ pub struct Entered {
 }
 
 impl Entered {
-    /// By the ratio that step 2 hands on, in lowest terms (P8): its numbers are those that are multiplied.
-    pub fn new(ratio: Ratio, entry: &Numbers, dose: usize) -> Entered {
-        let [base, entered] = [ratio.base, ratio.entered].map(u128::from);
+    pub fn new(case: &Case, entry: &Numbers, dose: usize) -> Entered {
+        let (base, entered) = match entry[ENTERED_UNIT] == entry[BASE_UNIT] {
+            true => (1, 1),
+            false => (amount(case, entry, BASE_UNIT), amount(case, entry, ENTERED_UNIT)),
+        };
         Entered { dose: entry[dose] as u128, count: entry[COUNT] as u128, base, entered }
     }
 
@@ -91,4 +93,11 @@ impl Entered {
             _ => Lies::Above,
         }
     }
+}
+
+fn amount(case: &Case, entry: &Numbers, unit: usize) -> u128 {
+    let key = [SRTCDE, CODE, unit].map(|place| entry[place] as u64);
+    let rows = &case.tables[Table::T730 as usize];
+    let mut rows = rows.cells.chunks_exact(rows.width());
+    rows.find(|row| [row[0], row[1], row[3]] == key).expect("a unit that step 2 found")[2] as u128
 }

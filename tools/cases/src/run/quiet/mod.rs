@@ -112,9 +112,8 @@ fn not_on(case: &Case, entry: &Numbers, setting: Setting) -> Option<Missing> {
 }
 
 fn of_rules(case: &Case, answer: &Answer, entry: &Numbers, quiet: Quiet) -> Vec<Missing> {
-    let Some(ratio) = answer.ratio else { return vec![] };
     let rows = per_day(case, answer, entry);
-    let (rules, entered) = (rules(case, &rows), Entered::new(ratio, entry, HIGHEST));
+    let (rules, entered) = (rules(case, &rows), Entered::new(case, entry, HIGHEST));
     let in_vain = |of| {
         let could = |rule: &Rule| rule.can_suppress() && entered.is_suppressed_by(rule, MAXIMUM);
         (!rules.iter().any(could)).then_some(Missing::InVain(of)).into_iter().collect()
@@ -124,7 +123,7 @@ fn of_rules(case: &Case, answer: &Answer, entry: &Numbers, quiet: Quiet) -> Vec<
         Quiet::SurfaceAsked => in_vain(Bounded::Surface),
         Quiet::Suppressed => [compared(&entered, &rules), suppressed(&entered, &rules, answer)].concat(),
         Quiet::Stands(why @ (Why::NoNormMaximum | Why::SingleDose | Why::DayDose)) => {
-            let lowest = Entered::new(ratio, entry, LOWEST);
+            let lowest = Entered::new(case, entry, LOWEST);
             [compared(&entered, &rules), stands(&entered, &lowest, &rules, why)].concat()
         }
         Quiet::Stands(_) => vec![],

@@ -55,26 +55,20 @@ impl Piece for Case {
     }
 
     fn shown(&self, second: &str, program: &str) -> String {
-        let answers = answers_of(self);
-        shown(self, second, program, |place| format!(" (by the test {:?})", answers[place].test))
-    }
-}
-
-/// The tables, and the entries for which the programs write other lines; behind the second program's stands the note.
-pub fn shown(case: &Case, second: &str, program: &str, note: impl Fn(usize) -> String) -> String {
-    let mut shown = show::tables(case);
-    let (second, program): (Vec<&str>, Vec<&str>) = (second.lines().collect(), program.lines().collect());
-    for (place, entry) in case.entries.iter().enumerate() {
-        let (second, program) = (second[place], program.get(place).unwrap_or(&"(no line)"));
-        if second != *program {
-            shown += &format!("entry:   {}\n", show::entry(entry));
-            shown += &format!("second:  {second}{}\nprogram: {program}\n", note(place));
+        let mut shown = show::tables(self);
+        let (second, program): (Vec<&str>, Vec<&str>) = (second.lines().collect(), program.lines().collect());
+        for (place, (entry, answer)) in self.entries.iter().zip(answers_of(self)).enumerate() {
+            let (second, program) = (second[place], program.get(place).unwrap_or(&"(no line)"));
+            if second != *program {
+                shown += &format!("entry:   {}\n", show::entry(entry));
+                shown += &format!("second:  {second} (by the test {:?})\nprogram: {program}\n", answer.test);
+            }
         }
+        if second.len() != program.len() {
+            shown += &format!("lines:   second {}, program {}\n", second.len(), program.len());
+        }
+        shown
     }
-    if second.len() != program.len() {
-        shown += &format!("lines:   second {}, program {}\n", second.len(), program.len());
-    }
-    shown
 }
 
 impl Case {

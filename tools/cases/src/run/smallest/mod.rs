@@ -4,14 +4,12 @@
 pub mod calls;
 pub mod case;
 pub mod counts;
-pub mod ratios;
 pub mod unit_file;
 
 use super::program::{self, Output};
 use std::ops::Range;
 
-/// A piece of a run: a case, for its answers or its ratios, a case of ranges, a unit file, or calls of files 730 and
-/// 070.
+/// A piece of a run: a case, a case of ranges, a unit file, or calls of files 730 and 070.
 pub trait Piece: Clone {
     /// The command of the second program, and of `again`.
     const OF: &'static str;
@@ -139,7 +137,7 @@ pub fn parts(length: usize) -> impl Iterator<Item = Range<usize>> {
 mod tests {
     use super::unit_file::UnitFile;
     use super::*;
-    use crate::generate::{calls::CallCase, case::Case, counts::CountCase, ratio::RatioCase, LONG_CASES};
+    use crate::generate::{calls::CallCase, case::Case, counts::CountCase, LONG_CASES};
 
     /// What `again` reads is what was written.
     fn reads_what_is_joined<P: Piece>() {
@@ -152,7 +150,6 @@ mod tests {
     fn a_joined_input_is_read_back() {
         reads_what_is_joined::<Case>();
         reads_what_is_joined::<CountCase>();
-        reads_what_is_joined::<RatioCase>();
         reads_what_is_joined::<UnitFile>();
         reads_what_is_joined::<CallCase>();
         let case = Case::of_run(3, 20).bytes();
@@ -179,7 +176,6 @@ mod tests {
     fn a_smaller_piece_is_smaller() {
         gets_smaller::<Case>(200, |smaller, piece| case::weight(smaller) < case::weight(piece));
         gets_smaller::<CountCase>(60, |smaller, piece| counts::weight(smaller) < counts::weight(piece));
-        gets_smaller::<RatioCase>(60, |smaller, piece| case::weight(&smaller.0) < case::weight(&piece.0));
         gets_smaller::<UnitFile>(200, |smaller, piece| unit_file::weight(&smaller.0) < unit_file::weight(&piece.0));
         gets_smaller::<CallCase>(200, |smaller, piece| calls::weight(smaller) < calls::weight(piece));
     }
