@@ -1,5 +1,7 @@
 // What the programs that check in bulk share: cases from standard input, their lines to standard output. What a case says and which lines it gets is in the
 // libraries below. This one reads and writes by the kit's io, libc and os, whose contracts nothing proves; no other library stands on it.
+#![tactic(auto)]
+
 ghost use Rattle.std.specs.Prelude.{◌≤◌, length};
 ghost use Rattle.stream.specs.Cases.{longest_case, Whole};
 ghost use Rattle.case_lines.specs.Lines.{longest_text};
@@ -9,7 +11,7 @@ use libc::{STDIN_FILENO, STDOUT_FILENO};
 use stream::cases::{Form, Next};
 
 // What came of reading a case. A whole one is so many bytes long.
-#[derive(Drop)]
+#[derive(Clone, Copy)]
 enum Arrival {
     Case(usize),
     Broken,
@@ -17,14 +19,14 @@ enum Arrival {
     Failed,
 }
 
-#[derive(Drop)]
+#[derive(Clone, Copy)]
 struct Piece {
     count: usize,
     failed: bool,
 }
 
 // The lines that are gathered end at `end` of the buffer. Where `goes_on` is false, nothing more is to be done.
-#[derive(Drop)]
+#[derive(Clone, Copy)]
 struct Gathered {
     end: usize,
     goes_on: bool,

@@ -17,7 +17,7 @@ const WRITES: u32 = 1;
 const MOST: u32 = 4_096;
 
 // A whole call of a file with so many bytes read or lent, or a part of a call, or no call.
-#[derive(Drop)]
+#[derive(Clone, Copy)]
 pub enum Found {
     Read730(usize),
     Write730(usize),

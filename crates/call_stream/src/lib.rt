@@ -1,4 +1,6 @@
 // A stream of calls of the readers and writers of records: where a call ends, and from its bytes to the line of its answer. A file's calls are its cases of `Found`.
+#![tactic(auto)]
+
 ghost use Rattle.std.specs.Prelude.{◌≡◌, ◌+◌, ◌-◌, ◌≤◌, length};
 ghost use Rattle.std.proofs.lemmas.List.Edits.{sets};
 ghost use Rattle.decimals.specs.Put.{Put};
@@ -19,14 +21,14 @@ use decimals::put_text;
 pub const LONGEST_LINE: usize = 8_214;
 
 // How many bytes a call has, and the place behind its line.
-#[derive(Drop)]
+#[derive(Clone, Copy)]
 pub struct Spans {
     pub call: usize,
     pub end: usize,
 }
 
 // Of bytes gathered so far: they begin with a whole call, whose line is written, or with a part of one, or with none, which the line says.
-#[derive(Drop)]
+#[derive(Clone, Copy)]
 pub enum Taken {
     Answered(Spans),
     More,

@@ -1,4 +1,6 @@
 // From the bytes of a case to its lines, entry by entry.
+#![tactic(auto)]
+
 ghost use Rattle.std.specs.Prelude.{◌≡◌, ◌+◌, ◌≤◌, ◌<◌, length};
 ghost use Rattle.decimals.specs.Put.{Put};
 ghost use Rattle.guideline.specs.Bytes.{lents};
@@ -13,14 +15,14 @@ pub mod range;
 pub mod single;
 
 // The tables of a case are tested once for all its entries, or by the check where there is one.
-#[derive(Drop)]
+#[derive(Clone, Copy)]
 pub enum Test {
     ByCheck,
     Once(Soundness),
 }
 
 // The next entry, the place behind the lines, and whether entries are left.
-#[derive(Drop)]
+#[derive(Clone, Copy)]
 pub struct Progress {
     pub next: usize,
     pub end: usize,

@@ -1,4 +1,6 @@
 // Numbers in decimal and texts, written at a place of a lent buffer. Each function answers the place behind what it wrote.
+#![tactic(auto)]
+
 ghost use Rattle.std.specs.Prelude.{◌≡◌, ◌+◌, ◌≤◌, length};
 ghost use Rattle.decimals.specs.Decimal.{decimal, field};
 ghost use Rattle.decimals.specs.Put.{Put};

@@ -13,7 +13,7 @@ use guideline::refusals::{Ending, Question, Refusal};
 use guideline::view::View;
 use sieve::settled::Settled;
 
-#[derive(Drop)]
+#[derive(Clone, Copy)]
 pub enum Measured {
     Rows(View, Settled),
     Refused(Refusal),

@@ -1,4 +1,6 @@
 // The check for each count of a range (P2): "1 to 3 times a day" is 1, 2 and 3 times a day, each by itself.
+#![tactic(auto)]
+
 ghost use Rattle.std.specs.Prelude.{◌≡◌, ◌++◌, ◌+◌, ◌*◌, ◌≤◌, length, drop};
 ghost use Rattle.std.proofs.lemmas.List.Edits.{sets};
 ghost use Rattle.guideline.specs.Bytes.{lents, spelled};

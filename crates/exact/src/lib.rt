@@ -1,9 +1,11 @@
 // Products that pass 64 bits, compared exactly. Nothing is rounded.
+#![tactic(auto)]
+
 ghost use Rattle.std.specs.Prelude.{◌≡◌, ◌+◌, ◌*◌, ltb};
 ghost use Rattle.exact.specs.Wide.{half, limb, wide, number, Partial};
 
 // A number in two limbs of 64 bits: high times 2 to the 64th, and low.
-#[derive(Drop)]
+#[derive(Clone, Copy)]
 struct Wide {
     high: u64,
     low: u64,

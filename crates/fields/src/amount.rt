@@ -2,7 +2,7 @@
 ghost use Rattle.std.specs.Prelude.{◌≡◌};
 ghost use Rattle.guideline.specs.Values.{amount_in_range, amount_zero, amount_large};
 
-#[derive(Drop)]
+#[derive(Clone, Copy)]
 pub struct Amount {
     pub cdhoev: u64,
 }

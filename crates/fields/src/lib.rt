@@ -1,4 +1,6 @@
 // The ranges of the fields, document 01's and the requests'.
+#![tactic(auto)]
+
 ghost use Rattle.std.specs.Prelude.{◌≡◌};
 ghost use Rattle.guideline.specs.Values.{codes, codes_from_1, units, counts, counts_of_070, doses, limits, ages, weights, surfaces, sexes, sexes_of_640, risks, levels, care_groups, icpctos, positions, editions};
 

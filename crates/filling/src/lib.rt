@@ -1,4 +1,6 @@
 // P5, "Let the HPK bring its PRK": before step 2, table 70 fills a blank PRK and a GPK of 0.
+#![tactic(auto)]
+
 ghost use Rattle.std.specs.Prelude.{◌≡◌};
 ghost use Rattle.guideline.specs.declared.rows.TableName.TheVariants.{T070};
 ghost use Rattle.guideline.specs.Filling.{same_prk, same_gpk, agrees, prk_filled, gpk_filled, filled_by};
@@ -14,7 +16,7 @@ use keys::seen::Seen;
 use tables::t070::Found070;
 
 // The entry after filling, or the refusal.
-#[derive(Drop)]
+#[derive(Clone, Copy)]
 pub enum Filled {
     Entry(Entry),
     Refused(Refusal),

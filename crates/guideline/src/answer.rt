@@ -7,7 +7,7 @@ use crate::context::Context;
 use crate::rows::{Row641, Row643};
 
 // The nine numbers.
-#[derive(Drop)]
+#[derive(Clone, Copy)]
 pub struct Answer {
     pub answer: u32,
     pub text: u32,
@@ -42,7 +42,7 @@ impl Answer {
 }
 
 // What the steps have chosen so far; 0 is not reached.
-#[derive(Drop)]
+#[derive(Clone, Copy)]
 pub struct Reached {
     pub basis: u32,
     pub category: u32,
@@ -92,7 +92,7 @@ impl Reached {
 }
 
 // What the comparison of step 12 says.
-#[derive(Drop)]
+#[derive(Clone, Copy)]
 pub struct Compared {
     pub risk: u32,
     pub high: u32,

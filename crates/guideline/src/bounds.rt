@@ -5,7 +5,7 @@ ghost use Rattle.guideline.specs.Values.{bounds_in_range, fits, matters};
 use crate::{both, either};
 
 // The bounds of a row of table 643, for age, weight or surface.
-#[derive(Drop)]
+#[derive(Clone, Copy)]
 pub struct Bounds {
     pub low: u32,
     pub high: u32,

@@ -2,14 +2,14 @@
 use crate::rows::{Row640, Row641, Row642, Row643, Row649};
 
 // A dose in base units is the dose times `base` over `entered`.
-#[derive(Drop)]
+#[derive(Clone, Copy)]
 pub struct Ratio {
     pub base: u64,
     pub entered: u64,
 }
 
 // Chosen by steps 2 to 6: the ratio, the row of the product, the age in months, the row of the level and the row of the setting.
-#[derive(Drop)]
+#[derive(Clone, Copy)]
 pub struct Context {
     pub ratio: Ratio,
     pub product: Row640,
@@ -19,7 +19,7 @@ pub struct Context {
 }
 
 // And by step 11: the row of the category, and the limits of its rule.
-#[derive(Drop)]
+#[derive(Clone, Copy)]
 pub struct Selected {
     pub context: Context,
     pub row: Row643,

@@ -3,13 +3,13 @@ ghost use Rattle.std.specs.Prelude.{◌≡◌};
 ghost use Rattle.guideline.specs.Counts.{refusal_number};
 
 // Each count has its answer, and so many stand in the lent list; or the refusal, and then the list is as it was.
-#[derive(Drop)]
+#[derive(Clone, Copy)]
 pub enum Counted {
     All(usize),
     Refused(RangeRefusal),
 }
 
-#[derive(Drop)]
+#[derive(Clone, Copy)]
 pub enum RangeRefusal {
     NoRange,
     NoRoom,

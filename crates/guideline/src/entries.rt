@@ -4,7 +4,7 @@ ghost use Rattle.guideline.specs.Entries.{with_count, with_months};
 ghost use Rattle.guideline.specs.Values.{switched, given_or};
 
 // The six data that an entry may leave blank.
-#[derive(Drop)]
+#[derive(Clone, Copy)]
 pub enum Datum {
     Age,
     Sex,
@@ -15,14 +15,14 @@ pub enum Datum {
 }
 
 // What an entry says of such a datum.
-#[derive(Drop)]
+#[derive(Clone, Copy)]
 pub enum Value {
     Blank,
     Given(u32),
 }
 
 // A setting of the host that may be not given. Which numbers it may hold is tested by the check (125).
-#[derive(Drop)]
+#[derive(Clone, Copy)]
 pub enum Switch {
     NotGiven,
     Position(u32),
@@ -54,7 +54,7 @@ impl Switch {
 }
 
 // One prescription to be checked: the data that may be blank, and the rest. specs/Entries.antt has document 01's order of its numbers.
-#[derive(Drop)]
+#[derive(Clone, Copy)]
 pub struct Entry {
     pub known: Data,
     pub rest: Prescription,
@@ -98,7 +98,7 @@ impl Entry {
     }
 }
 
-#[derive(Drop)]
+#[derive(Clone, Copy)]
 pub struct Data {
     pub age: Value,
     pub sex: Value,
@@ -109,7 +109,7 @@ pub struct Data {
 }
 
 // The part of an entry that is never blank.
-#[derive(Drop)]
+#[derive(Clone, Copy)]
 pub struct Prescription {
     pub gpk: u32,
     pub care: u32,

@@ -5,7 +5,7 @@ ghost use Rattle.guideline.specs.Values.{within};
 use crate::both;
 
 // The least and the greatest value that a field may have.
-#[derive(Drop)]
+#[derive(Clone, Copy)]
 pub struct Range {
     pub low: u32,
     pub high: u32,

@@ -5,7 +5,7 @@ ghost use Rattle.guideline.specs.Ask.{no_refusal};
 use crate::rows::TableName;
 
 // A question: the datum that it asks for and the step that asks. One datum may be asked for at several places.
-#[derive(Drop)]
+#[derive(Clone, Copy)]
 pub enum Question {
     AgeOfPerson,
     SexOfPerson,
@@ -18,7 +18,7 @@ pub enum Question {
 }
 
 // What the frequency differs in, where no row has it.
-#[derive(Drop)]
+#[derive(Clone, Copy)]
 pub enum Signal {
     OnlyCount,
     OnlyUnit,
@@ -27,7 +27,7 @@ pub enum Signal {
 
 // How a check ends before its comparison (step 12), other than by a missing datum: one for each test of "Order of steps", in its order. `HpkRowsSeveral` and
 // `HpkRowDiffers` are P5's. `Suppressed` is P4's; its answer is 100.
-#[derive(Drop)]
+#[derive(Clone, Copy)]
 pub enum Ending {
     EntryOutOfRange,
     NotWhole(TableName),
@@ -62,7 +62,7 @@ pub enum Ending {
 }
 
 // A step's refusal: it asks for a missing datum, or it ends the check.
-#[derive(Drop)]
+#[derive(Clone, Copy)]
 pub enum Refusal {
     Asks(Question),
     Ends(Ending),

@@ -1,6 +1,6 @@
 // The tables by their numbers, and their rows.
 
-#[derive(Drop)]
+#[derive(Clone, Copy)]
 pub enum TableName {
     T640,
     T641,
@@ -12,14 +12,14 @@ pub enum TableName {
 }
 
 // The rows of the tables, fields in document 01's order and under its names; those of table 70 (P5) in document 004's.
-#[derive(Drop)]
+#[derive(Clone, Copy)]
 pub struct Row640 {
     pub gpkode: u32,
     pub gpdgst: u32,
     pub gprisc: u32,
 }
 
-#[derive(Drop)]
+#[derive(Clone, Copy)]
 pub struct Row641 {
     pub gpkode: u32,
     pub prkode: u32,
@@ -28,7 +28,7 @@ pub struct Row641 {
     pub gpdbas: u32,
 }
 
-#[derive(Drop)]
+#[derive(Clone, Copy)]
 pub struct Row642 {
     pub gpdbas: u32,
     pub gpdzco: u32,
@@ -38,7 +38,7 @@ pub struct Row642 {
     pub gpdcat: u32,
 }
 
-#[derive(Drop)]
+#[derive(Clone, Copy)]
 pub struct Row643 {
     pub gpdcat: u32,
     pub gpdlfm: u32,
@@ -52,7 +52,7 @@ pub struct Row643 {
     pub gpddnr: u32,
 }
 
-#[derive(Drop)]
+#[derive(Clone, Copy)]
 pub struct Row649 {
     pub gpddnr: u32,
     pub normminimum: u32,
@@ -60,7 +60,7 @@ pub struct Row649 {
     pub absolutemaximum: u32,
 }
 
-#[derive(Drop)]
+#[derive(Clone, Copy)]
 pub struct Row730 {
     pub srtcde: u32,
     pub code: u32,
@@ -69,7 +69,7 @@ pub struct Row730 {
 }
 
 // HPANPR: how many PRK in the HPK; PRANGP: GPK in the PRK; HPANGP: GPK in the HPK.
-#[derive(Drop)]
+#[derive(Clone, Copy)]
 pub struct Row070 {
     pub hpkode: u32,
     pub prkode: u32,

@@ -5,7 +5,7 @@ ghost use Rattle.guideline.specs.Values.{all_care, whole_reason, Q_general, no_r
 use crate::entries::Prescription;
 
 // What the rows of table 642 are told apart by.
-#[derive(Drop)]
+#[derive(Clone, Copy)]
 pub struct Setting {
     pub care: u32,
     pub reason: u32,

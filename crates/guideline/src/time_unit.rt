@@ -5,7 +5,7 @@ ghost use Rattle.guideline.specs.Values.{per_day, pair, twins};
 use crate::{both, either};
 
 // A time unit of a frequency (GPDFEE). Twins stand in pairs.
-#[derive(Drop)]
+#[derive(Clone, Copy)]
 pub struct TimeUnit {
     pub code: u32,
 }

@@ -1,5 +1,5 @@
 // A view of a lent table, by value: where its rows stand. Number k of row i is number first + i * step + k * jump of the table.
-#[derive(Drop)]
+#[derive(Clone, Copy)]
 pub struct View {
     pub first: usize,
     pub step: usize,

@@ -1,11 +1,11 @@
 // What was seen of a lent table by its tests: do its keys rise? It is computed, never claimed.
-#[derive(Drop)]
+#[derive(Clone, Copy)]
 pub struct Seen {
     pub rising: bool,
 }
 
 // Of the seven tables.
-#[derive(Drop)]
+#[derive(Clone, Copy)]
 pub struct AllSeen {
     pub t640: Seen,
     pub t641: Seen,

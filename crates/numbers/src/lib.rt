@@ -1,4 +1,6 @@
 // Numbers in bytes, lowest byte first: read and written, 32 and 64 bits.
+#![tactic(auto)]
+
 ghost use Rattle.std.specs.Prelude.{◌≡◌, ◌+◌, ◌≤◌, ◌<◌, length};
 ghost use Rattle.std.proofs.lemmas.List.Edits.{sets};
 ghost use Rattle.numbers.specs.Words.{word, long, word_bytes, long_bytes};

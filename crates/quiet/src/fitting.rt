@@ -13,7 +13,7 @@ use guideline::refusals::Question;
 use guideline::view::View;
 use sieve::settled::Settled;
 
-#[derive(Drop)]
+#[derive(Clone, Copy)]
 pub enum Fitted {
     Rows(Settled),
     Asks(Question),

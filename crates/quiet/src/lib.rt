@@ -1,4 +1,6 @@
 // P4, quiet on a missing frequency: document 001, 3.4.2. Is the signal of step 9 suppressed? A link is one filter and what follows from it.
+#![tactic(auto)]
+
 ghost use Rattle.std.specs.Prelude.{◌≡◌, length};
 ghost use Rattle.guideline.specs.declared.entries.Value.TheVariants.{Blank};
 ghost use Rattle.guideline.specs.declared.rows.TableName.TheVariants.{T643, T649};
@@ -33,7 +35,7 @@ mod lower;
 mod rule;
 
 // Whether the signal is suppressed; or a weight or a surface is asked for.
-#[derive(Drop)]
+#[derive(Clone, Copy)]
 pub enum Quieted {
     Says(bool),
     Asks(Question),

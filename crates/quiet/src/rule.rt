@@ -19,7 +19,7 @@ use tables::t649;
 use tables::t649::Found649;
 
 // A rule keeps the signal whatever the others say; or it does not, and allows more than the entered dose or not.
-#[derive(Drop)]
+#[derive(Clone, Copy)]
 pub enum Judged {
     Bars,
     Free(bool),

@@ -13,7 +13,7 @@ use guideline::rows::TableName;
 use guideline::view::View;
 
 // What the pass over a table finds: a row out of range, or all in range, and whether the keys rise.
-#[derive(Drop)]
+#[derive(Clone, Copy)]
 pub enum Finding {
     OutOfRange,
     InRange(bool),

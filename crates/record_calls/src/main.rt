@@ -1,4 +1,6 @@
 // The calls of the readers and writers of records in bulk: calls from standard input, the line of each answer to standard output.
+#![tactic(auto)]
+
 ghost use Rattle.std.specs.Prelude.{◌+◌, ◌≤◌, ◌<◌, length};
 ghost use Rattle.call_lines.specs.Lines.{longest_line};
 ghost use Rattle.call_stream.specs.Calls.{longest_call};
@@ -8,7 +10,7 @@ use libc::{STDIN_FILENO, STDOUT_FILENO};
 
 // The bytes of the input from `from` to `have` are gathered and not yet taken; the lines that are gathered end at `end`. Where `goes_on` is
 // false, nothing more is to be read.
-#[derive(Drop)]
+#[derive(Clone, Copy)]
 struct Gathered {
     from: usize,
     have: usize,
@@ -81,7 +83,7 @@ fn next_call(input: &mut [u8], from: usize, have: usize, out: &mut [u8], at: usi
     }
 }
 
-#[derive(Drop)]
+#[derive(Clone, Copy)]
 struct Place {
     at: usize,
     goes_on: bool,

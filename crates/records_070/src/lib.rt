@@ -1,4 +1,6 @@
 // File 070, 64 characters: the PRK and the GPK of a HPK, and how many of the one are in the other.
+#![tactic(auto)]
+
 ghost use Rattle.std.specs.Prelude.{◌≡◌, ◌+◌, ◌≤◌, length};
 ghost use Rattle.records.specs.Layout.{every, fixed_part, read_by, numbers, fits};
 ghost use Rattle.records.specs.File.{reading, writing, leaves};
@@ -11,7 +13,7 @@ use records::parts::{Field, has_room, is_text, number_at, put_digits};
 use records::{ReadRefusal, Written};
 
 // HPANPR: PRK in HPK. PRANGP: GPK in PRK. HPANGP: GPK in HPK.
-#[derive(Drop)]
+#[derive(Clone, Copy)]
 pub struct Record070 {
     pub mutation: u32,
     pub hpkode: u32,
@@ -22,7 +24,7 @@ pub struct Record070 {
     pub hpangp: u32,
 }
 
-#[derive(Drop)]
+#[derive(Clone, Copy)]
 pub enum Read070 {
     Record(Record070),
     Refused(ReadRefusal),

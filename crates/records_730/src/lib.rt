@@ -1,4 +1,6 @@
 // File 730, 64 characters: amounts and units.
+#![tactic(auto)]
+
 ghost use Rattle.std.specs.Prelude.{◌≡◌, ◌+◌, ◌≤◌, length};
 ghost use Rattle.records.specs.Layout.{every, fixed_part, read_by, numbers, fits};
 ghost use Rattle.records.specs.File.{reading, writing, leaves};
@@ -11,7 +13,7 @@ use records::parts::{Field, has_room, is_text, number_at, put_digits};
 use records::{ReadRefusal, Written};
 
 // CDHOEV in thousandths.
-#[derive(Drop)]
+#[derive(Clone, Copy)]
 pub struct Record730 {
     pub mutation: u32,
     pub srtcde: u32,
@@ -20,7 +22,7 @@ pub struct Record730 {
     pub cdeenh: u32,
 }
 
-#[derive(Drop)]
+#[derive(Clone, Copy)]
 pub enum Read730 {
     Record(Record730),
     Refused(ReadRefusal),

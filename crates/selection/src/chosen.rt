@@ -5,7 +5,7 @@ ghost use Rattle.selection.specs.Chosen.{refusal_age, refusal640, refusal641, re
 use guideline::refusals::Refusal;
 use guideline::rows::{Row640, Row641, Row642, Row649};
 
-#[derive(Drop)]
+#[derive(Clone, Copy)]
 pub enum Chosen640 {
     Row(Row640),
     Refused(Refusal),
@@ -22,7 +22,7 @@ impl Chosen640 {
     }
 }
 
-#[derive(Drop)]
+#[derive(Clone, Copy)]
 pub enum ChosenAge {
     Months(u32),
     Refused(Refusal),
@@ -39,7 +39,7 @@ impl ChosenAge {
     }
 }
 
-#[derive(Drop)]
+#[derive(Clone, Copy)]
 pub enum Chosen641 {
     Row(Row641),
     Refused(Refusal),
@@ -56,7 +56,7 @@ impl Chosen641 {
     }
 }
 
-#[derive(Drop)]
+#[derive(Clone, Copy)]
 pub enum Chosen642 {
     Row(Row642),
     Refused(Refusal),
@@ -73,7 +73,7 @@ impl Chosen642 {
     }
 }
 
-#[derive(Drop)]
+#[derive(Clone, Copy)]
 pub enum Chosen649 {
     Row(Row649),
     Refused(Refusal),

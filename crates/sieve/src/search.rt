@@ -12,7 +12,7 @@ use guideline::view::View;
 use keys::next::next;
 
 // Where a row has the frequency, and by which filter: of the exact unit or of its twin.
-#[derive(Drop)]
+#[derive(Clone, Copy)]
 pub enum Place {
     At(usize, Filter),
     Nowhere,

@@ -9,7 +9,7 @@ use guideline::entries::Value;
 use guideline::rows::Row643;
 
 // An age and the measures are settled by a number alone: it takes half the bytes of a filter on the stack. `Blank`: nothing is settled yet.
-#[derive(Drop)]
+#[derive(Clone, Copy)]
 pub struct Settled {
     pub category: u32,
     pub age: Value,

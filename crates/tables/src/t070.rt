@@ -10,7 +10,7 @@ use cells::t070;
 use guideline::rows::{Row070, TableName};
 use keys::seen::Seen;
 
-#[derive(Drop)]
+#[derive(Clone, Copy)]
 pub enum Found070 {
     Nothing,
     One(Row070),

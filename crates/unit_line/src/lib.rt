@@ -1,4 +1,6 @@
 // The line of what was read of a record, written at a place of a lent buffer. Each function answers the place behind what it wrote.
+#![tactic(auto)]
+
 ghost use Rattle.std.specs.Prelude.{◌≡◌, ◌+◌, ◌≤◌, length};
 ghost use Rattle.decimals.specs.Decimal.{space};
 ghost use Rattle.decimals.specs.Put.{Put};

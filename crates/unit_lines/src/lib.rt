@@ -1,4 +1,6 @@
 // The unit list of document 01: the machine that lists an input in pieces, and what the program writes for each piece and at the end.
+#![tactic(auto)]
+
 mod listing;
 mod machine;
 mod text;

@@ -7,7 +7,7 @@ use crate::machine::{Finished, feed, finish};
 use crate::text::ListMachine;
 
 // The machine after a piece, and how many characters of lines stand in front in the buffer.
-#[derive(Drop)]
+#[derive(Clone, Copy)]
 pub struct Piece {
     pub machine: ListMachine,
     pub written: usize,

@@ -58,7 +58,7 @@ fn list_text(text: &[u8], out: &mut [u8], at: usize) -> usize
 }
 
 // Where the text that goes on begins, up to where the input was taken, and the place behind the lines.
-#[derive(Drop)]
+#[derive(Clone, Copy)]
 struct Moved {
     next: usize,
     stop: usize,
@@ -97,7 +97,7 @@ fn list_begun(m: ListMachine, out: &mut [u8], at: usize) -> usize
     list_text(&bytes[..len - 1], out, at)
 }
 
-#[derive(Drop)]
+#[derive(Clone, Copy)]
 pub struct Fed {
     pub machine: ListMachine,
     pub taken: usize,
@@ -153,7 +153,7 @@ pub fn feed(m: ListMachine, input: &[u8], from: usize, out: &mut [u8], at: usize
 }
 
 // The line of a last record without CR LF has so many characters, or there is none, or no room for a longest line.
-#[derive(Drop)]
+#[derive(Clone, Copy)]
 pub enum Finished {
     Line(usize),
     NoRecord,

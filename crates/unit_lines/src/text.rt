@@ -6,7 +6,7 @@ ghost use Rattle.unit_lines.specs.Machine.{last_of, text_of, keep};
 const KEPT_MOST: usize = 66;
 
 // The text is the first `len` of `bytes`.
-#[derive(Drop)]
+#[derive(Clone, Copy)]
 pub struct ListMachine {
     pub bytes: [u8; KEPT_MOST],
     pub len: usize,

@@ -1,5 +1,7 @@
 // The unit list of document 01: records from standard input, lines to standard output, both in large pieces. All that is decided is decided by
 // unit_lines; here bytes are moved.
+#![tactic(auto)]
+
 ghost use Rattle.std.specs.Prelude.{◌≤◌, length};
 ghost use Rattle.unit_lines.specs.Machine.{longest_line};
 ghost use Rattle.unit_lines.specs.Listing.{room_for};
@@ -12,7 +14,7 @@ use unit_lines::ListMachine;
 const PIECE: usize = 8192;
 
 // There may be more input, or it has ended, or a read or a write failed and that was said.
-#[derive(Drop)]
+#[derive(Clone, Copy)]
 enum Next {
     More,
     End,
@@ -20,7 +22,7 @@ enum Next {
 }
 
 // The machine after a piece, how many characters of lines stand in front in the buffer, and how it goes on.
-#[derive(Drop)]
+#[derive(Clone, Copy)]
 struct Turn {
     machine: ListMachine,
     written: usize,
