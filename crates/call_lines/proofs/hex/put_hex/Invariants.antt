@@ -1,0 +1,13 @@
+-- `put_hex` meets its contract: the bytes that are left complete the text. Assumes nothing.
+use Prim.Native.Nat.{◌+◌, ◌*◌, ◌-◌, ◌≤◌}
+use mathlib.Core.Path.{◌≡◌}
+use lib.ListN.{length, drop}
+use lib.Seq.{sets}
+use Rattle.call_lines.specs.Lines.{hex}
+use Rattle.call_lines.proofs.hex.put_hex.Given as goal
+
+abbrev pub invariant-loop-i : goal.invariant-loop-i
+invariant-loop-i l = (l.i ≤ length l.initial.out) × (l.end ≡ l.bytes + 2 * l.i) × (length l.out ≡ length l.at) × (sets l.out l.end (hex (drop l.i l.initial.out)) ≡ sets l.at l.bytes (hex l.initial.out))
+
+abbrev pub decreases-loop-i : goal.decreases-loop-i
+decreases-loop-i l = length l.initial.out - l.i

@@ -1,0 +1,26 @@
+-- The lines of the answers, or the number of the refusal. Assumes nothing.
+use Prim.Native.Nat.{ℕ, ◌*◌, ◌≤◌}
+use mathlib.Core.List.{[], ◌∷◌}
+use mathlib.Core.Path.{ap}
+use native.Mathlib.Omega.{arith}
+use lib.ListN.{length}
+use Rattle.guideline.specs.Check.{answer_length}
+use Rattle.guideline.specs.Counts.{most_counts, refusal_number}
+use Rattle.stream.proofs.InLine.{line_of_these}
+use Rattle.case_lines.proofs.range.put_counted.Goals as goal
+
+pub put_places-requires : goal.put_places-requires
+put_places-requires c =
+    let short : (c.in-All.n ≤ most_counts) × (c.in-All.n * answer_length ≤ length c.args.list.now) = rw c.in-All.is at c.requires.0 in
+    (short.1, omega (arith, short.0, c.requires.1))
+
+pub returns-in-All : goal.returns-in-All
+returns-in-All c =
+    let many = c.counted-1.given in
+    let short : (many.0.0 ≤ most_counts) × (many.0.0 * answer_length ≤ length c.args.list.now) = rw many.1 at c.requires.0 in
+    (rw many.1 c.put_places.ensures.0, omega (arith, short.0, c.put_places.ensures.1))
+
+pub returns-in-Refused : goal.returns-in-Refused
+returns-in-Refused c =
+    let why = c.counted-in-Refused-1.given in
+    (rw why.1 (line_of_these _ (refusal_number why.0.0 ∷ []) c.put_numbers.ensures.0 (ap (λ (n : ℕ). n ∷ []) c.number.ensures)), omega (arith, c.put_numbers.ensures.1))

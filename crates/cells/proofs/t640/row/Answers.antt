@@ -1,0 +1,15 @@
+-- Each field is the number that the definition reads. Assumes nothing.
+use native.Mathlib.Omega.{arith}
+use Rattle.cells.proofs.t640.row.Goals as goal
+
+pub returns : goal.returns
+returns c = rw (← c.cell-3.ensures, ← c.cell-2.ensures, ← c.cell.ensures)
+
+pub cell-requires : goal.cell-requires
+cell-requires c = c.requires.0.inside c.args.row _ c.requires.1 (omega arith)
+
+pub cell-requires-2 : goal.cell-requires-2
+cell-requires-2 c = c.requires.0.inside c.args.row _ c.requires.1 (omega arith)
+
+pub cell-requires-3 : goal.cell-requires-3
+cell-requires-3 c = c.requires.0.inside c.args.row _ c.requires.1 (omega arith)

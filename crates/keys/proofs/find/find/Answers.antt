@@ -1,0 +1,17 @@
+-- Either way it is the stretch. Assumes nothing.
+use mathlib.Core.Path.{sym, ◌∙◌}
+use Rattle.keys.proofs.RisingKeys.{rises_rising}
+use Rattle.keys.proofs.find.find.Goals as goal
+
+pub halved-requires : goal.halved-requires
+halved-requires c =
+    (c.requires.0, rises_rising _ _ (sym c.requires.1 ∙ c.if-rising.true))
+
+pub stretch-requires : goal.stretch-requires
+stretch-requires c = c.requires.0
+
+pub returns-then-rising : goal.returns-then-rising
+returns-then-rising c = c.halved.ensures
+
+pub returns : goal.returns
+returns c = c.stretch.ensures

@@ -1,0 +1,81 @@
+-- No row that the loop has passed bars, and it remembers whether one allowed more. Assumes nothing.
+use borrow.Author.Rules.{rules}
+use Prim.Native.Nat.{ℕ, ◌-◌}
+use mathlib.Core.Path.{sym, ◌∙◌, ap}
+use mathlib.Core.Bool.{Bool, not, ◌&&◌}
+use mathlib.Core.List.{List}
+use native.Mathlib.Omega.{arith}
+use Rattle.guideline.specs.declared.context.Ratio.{Ratio}
+use Rattle.guideline.specs.declared.entries.Prescription.{Prescription}
+use Rattle.guideline.specs.declared.rows.Row643.{Row643}
+use Rattle.guideline.specs.declared.rows.TableName.TheVariants.{T649}
+use Rattle.guideline.specs.Quiet.{minimum_empty, allows_more, lower}
+use Rattle.cells.specs.Lents.{rows}
+use Rattle.cells.proofs.Views.{fits_less}
+use Rattle.sieve.specs.Settled.{settled643}
+use Rattle.sieve.proofs.Passed.{pass_first, pass_miss, passed_all}
+use Rattle.sieve.proofs.Kept.{some_missed, some_found}
+use Rattle.quiet.specs.Judged.{judged}
+use Rattle.quiet.proofs.Judging.{barred, freed}
+use Rattle.quiet.proofs.Looked.{looked_first, looked_on, looked_all}
+use Rattle.quiet.proofs.lower.lower.Goals as goal
+
+-- what keeps the signal, and what may suppress it
+abbrev bars : List ℕ → Row643 → Bool
+bars t649 r = not (minimum_empty (rows T649 t649) r)
+
+abbrev more_than : List ℕ → Prescription → Ratio → Row643 → Bool
+more_than t649 p q r = allows_more (rows T649 t649) p q r
+
+pub next-i-requires : goal.next-i-requires
+next-i-requires c = (fits_less 1 (omega arith) c.requires.0, omega arith)
+
+pub loop-i-init : goal.loop-i-init
+loop-i-init c =
+    let a = c.args in
+    let l = a.t643.now in (
+      pass_first l a.v a.s (bars a.t649.now) c.next-i.ensures,
+      looked_first l a.v a.s (more_than a.t649.now a.p a.q) c.next-i.ensures,
+    )
+
+pub row-row-requires : goal.row-row-requires
+row-row-requires c = (c.requires.0, omega arith)
+
+pub overflow_add-i : goal.overflow_add-i
+overflow_add-i c = let h = c.requires.0.few in search (h, rules)
+
+pub next-i-requires-in-loop-i : goal.next-i-requires-in-loop-i
+next-i-requires-in-loop-i c = (fits_less 1 (omega arith) c.requires.0, omega arith)
+
+pub judge-judged-requires : goal.judge-judged-requires
+judge-judged-requires c = (c.requires.1, c.requires.2, c.requires.3)
+
+pub returns-in_default : goal.returns-in_default
+unfolding lower
+returns-in_default c =
+    let a = c.args in
+    let l = a.t643.now in
+    let b = bars a.t649.now in
+    let m = more_than a.t649.now a.p a.q in
+    let here = c.judge-judged.ensures ∙ ap (λ (r : Row643). judged (settled643 a.s r && b r) (settled643 a.s r && m r)) c.row-row.ensures in
+    let bar = barred _ _ (sym here ∙ c.in_default.is) in
+    rw (some_found l a.v a.s b _ (omega arith) bar)
+
+pub loop-i-preserved : goal.loop-i-preserved
+loop-i-preserved c =
+    let a = c.args in
+    let l = a.t643.now in
+    let b = bars a.t649.now in
+    let m = more_than a.t649.now a.p a.q in
+    let here = c.judge-judged.ensures ∙ ap (λ (r : Row643). judged (settled643 a.s r && b r) (settled643 a.s r && m r)) c.row-row.ensures in
+    let free = freed _ _ (sym here ∙ c.in-Free.is) in
+    let looked = looked_on l a.v a.s m c.loop-i.invariant.1 (omega arith) free.1 c.next-i-in-loop-i.ensures in
+    (pass_miss l a.v a.s b c.loop-i.invariant.0 free.0 c.next-i-in-loop-i.ensures, rw c.either-more.ensures looked)
+
+pub returns : goal.returns
+unfolding lower
+returns c =
+    let a = c.args in
+    let l = a.t643.now in
+    rw (some_missed l a.v a.s (bars a.t649.now) (passed_all c.loop-i.invariant.0 (omega arith)))
+    (looked_all l a.v a.s (more_than a.t649.now a.p a.q) c.loop-i.invariant.1 (omega arith))

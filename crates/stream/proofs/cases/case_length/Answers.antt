@@ -1,0 +1,16 @@
+-- Behind the entries. Assumes nothing.
+use mathlib.Core.Path.{refl}
+use native.Mathlib.Omega.{arith}
+use Rattle.stream.specs.Cases.{entry_start, case_length}
+use Rattle.stream.proofs.Inside.{size_most}
+use Rattle.stream.proofs.cases.case_length.Goals as goal
+
+pub size-requires : goal.size-requires
+size-requires c = omega (arith, size_most c.args.form c.entry_count.result c.entry_count.ensures.1)
+
+pub overflow_add-result : goal.overflow_add-result
+overflow_add-result c = omega (arith, c.size.ensures, c.start.ensures.1, size_most c.args.form c.entry_count.result c.entry_count.ensures.1)
+
+pub returns : goal.returns
+unfolding case_length entry_start
+returns c = rw (c.size.ensures, c.entry_count.ensures.0, c.start.ensures.0) refl

@@ -1,0 +1,43 @@
+-- The loop goes through the rows of the key and tallies those that pass. Assumes nothing.
+use borrow.Author.Rules.{rules}
+use Prim.Native.Nat.{◌-◌}
+use native.Mathlib.Omega.{arith}
+use Rattle.guideline.specs.declared.rows.TableName.TheVariants.{T730}
+use Rattle.cells.proofs.Views.{fits_less}
+use Rattle.cells.proofs.Tallied.{tallying_all}
+use Rattle.tables.specs.Tests.{of_unit}
+use Rattle.tables.proofs.Visited.{first_visit, hit_visited, miss_visited}
+use Rattle.tables.proofs.t730.tally.Goals as goal
+
+pub next-i-requires : goal.next-i-requires
+next-i-requires c = (fits_less _ (omega arith) c.requires, omega arith)
+
+pub loop-i-init : goal.loop-i-init
+loop-i-init c =
+    let a = c.args in
+    first_visit T730 a.code a.t.now a.v (of_unit a.srtcde a.unit) c.next-i.ensures
+
+pub overflow_add-here : goal.overflow_add-here
+overflow_add-here c = let h = c.requires.few in search (h, rules)
+
+pub next-i-requires-in-loop-i : goal.next-i-requires-in-loop-i
+next-i-requires-in-loop-i c = (fits_less _ (omega arith) c.requires, omega arith)
+
+pub row-requires : goal.row-requires
+row-requires c = (c.requires, omega arith)
+
+pub overflow_add-count : goal.overflow_add-count
+overflow_add-count c = let h = c.requires.few in search (h, rules)
+
+pub loop-i-preserved-then-is_unit : goal.loop-i-preserved-then-is_unit
+loop-i-preserved-then-is_unit c =
+    let a = c.args in
+    hit_visited T730 a.code a.t.now a.v (of_unit a.srtcde a.unit) c.loop-i.invariant (omega arith) c.next-i-in-loop-i.ensures c.row.ensures c.is_unit.ensures c.if-is_unit.true
+
+pub loop-i-preserved : goal.loop-i-preserved
+loop-i-preserved c =
+    let a = c.args in
+    miss_visited T730 a.code a.t.now a.v (of_unit a.srtcde a.unit) c.loop-i.invariant (omega arith) c.next-i-in-loop-i.ensures c.row.ensures c.is_unit.ensures c.if-is_unit.false
+
+pub returns : goal.returns
+returns c = tallying_all _ c.loop-i.invariant.0 (omega arith)
