@@ -6,7 +6,7 @@ use Rattle.stream.specs.Cases.{entry_count}
 use Rattle.bulk.proofs.answer_case.Given as goal
 
 abbrev pub invariant-loop-form : goal.invariant-loop-form
-invariant-loop-form l = (l.next ≤ entry_count l.case) × (l.end ≤ length l.out) × (length l.out ≡ length l.at)
+invariant-loop-form l = (l.next ≤ entry_count l.case) × (l.end ≤ length l.out) × (length l.out ≡ length l.initial.out)
 
 abbrev pub decreases-loop-form : goal.decreases-loop-form
 decreases-loop-form l = 2 * (entry_count l.case - l.next) + used l.end

@@ -6,7 +6,7 @@ use lib.Seq.{sets}
 use Rattle.call_stream.proofs.to_front.Given as goal
 
 abbrev pub invariant-loop-i : goal.invariant-loop-i
-invariant-loop-i l = (l.i ≤ l.initial.s) × (l.initial.s ≡ l.n - l.to) × (length l.s ≡ length l.from) × (l.s ≡ sets l.from 0 (take l.i (drop l.to l.from)))
+invariant-loop-i l = (l.i ≤ l.n) × (l.n ≡ l.to - l.from) × (length l.s ≡ length l.initial.s) × (l.s ≡ sets l.initial.s 0 (take l.i (drop l.from l.initial.s)))
 
 abbrev pub decreases-loop-i : goal.decreases-loop-i
-decreases-loop-i l = l.initial.s - l.i
+decreases-loop-i l = l.n - l.i

@@ -7,7 +7,7 @@ use Rattle.case_lines.specs.Lines.{lines_from}
 use Rattle.case_lines.proofs.put_lines.Given as goal
 
 abbrev pub invariant-loop-i : goal.invariant-loop-i
-invariant-loop-i l = (l.from ≤ l.i) × (l.i ≤ l.longest) × (l.end ≤ length l.out) × (length l.out ≡ length l.at) × Put l.at l.n (lines_from l.f l.case l.from (l.i - l.from)) l.out l.end
+invariant-loop-i l = (l.from ≤ l.i) × (l.i ≤ l.n) × (l.end ≤ length l.out) × (length l.out ≡ length l.initial.out) × Put l.initial.out l.at (lines_from l.f l.case l.from (l.i - l.from)) l.out l.end
 
 abbrev pub decreases-loop-i : goal.decreases-loop-i
-decreases-loop-i l = l.longest - l.i
+decreases-loop-i l = l.n - l.i

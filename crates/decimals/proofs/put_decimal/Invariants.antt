@@ -7,7 +7,7 @@ use Rattle.decimals.specs.Decimal.{decimal}
 use Rattle.decimals.proofs.put_decimal.Given as goal
 
 abbrev pub invariant-loop-rest : goal.invariant-loop-rest
-invariant-loop-rest l = (l.left ≡ l.n + length (decimal l.rest)) × (l.left ≤ length l.at) × (length l.out ≡ length l.at) × (sets l.out l.n (decimal l.rest) ≡ sets l.at l.n (decimal l.end))
+invariant-loop-rest l = (l.left ≡ l.at + length (decimal l.rest)) × (l.left ≤ length l.initial.out) × (length l.out ≡ length l.initial.out) × (sets l.out l.at (decimal l.rest) ≡ sets l.initial.out l.at (decimal l.n))
 
 abbrev pub decreases-loop-rest : goal.decreases-loop-rest
 decreases-loop-rest l = l.rest

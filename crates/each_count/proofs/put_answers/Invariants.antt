@@ -9,7 +9,7 @@ use Rattle.guideline.specs.Counts.{in_turn, single}
 use Rattle.each_count.proofs.put_answers.Given as goal
 
 abbrev pub invariant-loop-i : goal.invariant-loop-i
-invariant-loop-i l = (l.i ≤ l.n) × (length l.list ≡ length l.asked) × (l.list ≡ in_turn (λ k. single (spelled (lents l.t640 l.t641 l.t642 l.t643 l.t649 l.t730 l.t070)) l.initial.list (l.first + k)) l.i ++ drop (l.i * answer_length) l.asked)
+invariant-loop-i l = (l.i ≤ l.n) × (length l.list ≡ length l.initial.list) × (l.list ≡ in_turn (λ k. single (spelled (lents l.t640 l.t641 l.t642 l.t643 l.t649 l.t730 l.t070)) l.asked (l.first + k)) l.i ++ drop (l.i * answer_length) l.initial.list)
 
 abbrev pub decreases-loop-i : goal.decreases-loop-i
 decreases-loop-i l = l.n - l.i

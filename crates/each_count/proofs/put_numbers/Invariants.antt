@@ -6,7 +6,7 @@ use lib.Seq.{sets}
 use Rattle.each_count.proofs.put_numbers.Given as goal
 
 abbrev pub invariant-loop-i : goal.invariant-loop-i
-invariant-loop-i l = (l.i ≤ length l.initial.list) × (length l.list ≡ length l.at) × (l.list ≡ sets l.at l.numbers (take l.i l.initial.list))
+invariant-loop-i l = (l.i ≤ length l.numbers) × (length l.list ≡ length l.initial.list) × (l.list ≡ sets l.initial.list l.at (take l.i l.numbers))
 
 abbrev pub decreases-loop-i : goal.decreases-loop-i
-decreases-loop-i l = length l.initial.list - l.i
+decreases-loop-i l = length l.numbers - l.i

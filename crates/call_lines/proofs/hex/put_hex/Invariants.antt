@@ -7,7 +7,7 @@ use Rattle.call_lines.specs.Lines.{hex}
 use Rattle.call_lines.proofs.hex.put_hex.Given as goal
 
 abbrev pub invariant-loop-i : goal.invariant-loop-i
-invariant-loop-i l = (l.i ≤ length l.initial.out) × (l.end ≡ l.bytes + 2 * l.i) × (length l.out ≡ length l.at) × (sets l.out l.end (hex (drop l.i l.initial.out)) ≡ sets l.at l.bytes (hex l.initial.out))
+invariant-loop-i l = (l.i ≤ length l.bytes) × (l.end ≡ l.at + 2 * l.i) × (length l.out ≡ length l.initial.out) × (sets l.out l.end (hex (drop l.i l.bytes)) ≡ sets l.initial.out l.at (hex l.bytes))
 
 abbrev pub decreases-loop-i : goal.decreases-loop-i
-decreases-loop-i l = length l.initial.out - l.i
+decreases-loop-i l = length l.bytes - l.i

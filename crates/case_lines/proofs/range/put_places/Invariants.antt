@@ -8,7 +8,7 @@ use Rattle.stream.specs.Lines.{line, longest_line}
 use Rattle.case_lines.proofs.range.put_places.Given as goal
 
 abbrev pub invariant-loop-i : goal.invariant-loop-i
-invariant-loop-i l = (l.i ≤ l.n) × (length l.out ≡ length l.at) × (l.end ≤ l.initial.out + l.i * longest_line) × Put l.at l.initial.out (in_turn (λ k. line (numbers_at k l.list)) l.i) l.out l.end
+invariant-loop-i l = (l.i ≤ l.n) × (length l.out ≡ length l.initial.out) × (l.end ≤ l.at + l.i * longest_line) × Put l.initial.out l.at (in_turn (λ k. line (numbers_at k l.list)) l.i) l.out l.end
 
 abbrev pub decreases-loop-i : goal.decreases-loop-i
 decreases-loop-i l = l.n - l.i

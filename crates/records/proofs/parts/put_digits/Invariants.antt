@@ -8,7 +8,7 @@ use Rattle.records.proofs.parts.put_digits.Given as goal
 
 -- the digits that are left, stored in front, complete the number
 abbrev pub invariant-loop-left : goal.invariant-loop-left
-invariant-loop-left l = (l.left ≤ l.n) × (length l.buf ≡ length l.at) × (sets l.buf l.width (digits l.left l.rest) ≡ sets l.at l.width (digits l.n l.initial.buf))
+invariant-loop-left l = (l.left ≤ l.width) × (length l.buf ≡ length l.initial.buf) × (sets l.buf l.at (digits l.left l.rest) ≡ sets l.initial.buf l.at (digits l.width l.n))
 
 abbrev pub decreases-loop-left : goal.decreases-loop-left
 decreases-loop-left l = l.left

@@ -8,10 +8,10 @@ use Rattle.stream.proofs.lines.put_numbers.Given as goal
 
 abbrev pub invariant-loop-i : goal.invariant-loop-i
 invariant-loop-i l = (l.i ≤ length l.numbers)
-    × (l.end ≤ l.initial.buf + l.i * longest_field)
-    × (length l.buf ≡ length l.at)
-    × (l.end + length (line (drop l.i l.numbers)) ≡ l.initial.buf + length (line l.numbers))
-    × (sets l.buf l.end (line (drop l.i l.numbers)) ≡ sets l.at l.initial.buf (line l.numbers))
+    × (l.end ≤ l.at + l.i * longest_field)
+    × (length l.buf ≡ length l.initial.buf)
+    × (l.end + length (line (drop l.i l.numbers)) ≡ l.at + length (line l.numbers))
+    × (sets l.buf l.end (line (drop l.i l.numbers)) ≡ sets l.initial.buf l.at (line l.numbers))
 
 abbrev pub decreases-loop-i : goal.decreases-loop-i
 decreases-loop-i l = length l.numbers - l.i

@@ -5,7 +5,7 @@ use lib.Seq.{sets}
 use Rattle.unit_lines.proofs.text.more_kept.Given as goal
 
 abbrev pub invariant-loop-i : goal.invariant-loop-i
-invariant-loop-i l = (l.i ≤ l.end) × (length l.bytes ≡ 66) × (l.bytes ≡ sets l.len l.n (take l.i l.more))
+invariant-loop-i l = (l.i ≤ l.n) × (length l.bytes ≡ 66) × (l.bytes ≡ sets l.initial.bytes l.len (take l.i l.more))
 
 abbrev pub decreases-loop-i : goal.decreases-loop-i
-decreases-loop-i l = l.end - l.i
+decreases-loop-i l = l.n - l.i
