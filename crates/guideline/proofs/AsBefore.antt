@@ -146,6 +146,9 @@ calm_place lo hi c r l m =
   where
     go : (p q b : Bool) → eqb (line r).suppressed 0 ≡ b → T p → T q → T (not (p && q) || b) → (line r).suppressed ≡ 0
     go true true true e _ _ k = eqb-true (line r).suppressed 0 e
+    go false q b e x4 _ k = elim x4 [ ]
+    go true false b e _ x10 k = elim x10 [ ]
+    go true true false e _ _ k = elim k [ ]
 
 calm_rises : {A : Type 0} {lo hi : ℕ} {p : Step A} → Rises lo hi p → ((r : Refusal) → lo ≤ place r → place r < hi → (line r).suppressed ≡ 0) → Holds Calm Whatever p
 calm_rises (rises_done h) m = holds_done tt

@@ -114,6 +114,8 @@ end_by_place r l m =
   where
     go : (p q : Bool) → T p → T q → T (not (p && q) || is_end r) → T (is_end r)
     go true true _ _ k = k
+    go false q x3 _ k = elim x3 [ ]
+    go true false _ x8 k = elim x8 [ ]
 
 abbrev Whatever : {A : Type 0} → A → Type 0
 Whatever a = Unit {0}

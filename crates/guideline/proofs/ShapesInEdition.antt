@@ -34,13 +34,16 @@ shapes_kept (s ∷ more) = shape_kept s && shapes_kept more
 
 first : (a b : Bool) → T (a && b) → T a
 first true b h = tt
+first false b h = elim h [ ]
 
 second : (a b : Bool) → T (a && b) → T b
 second true b h = h
+second false b h = elim h [ ]
 
 both : (p p' q q' : Bool) → (T p → T p') → (T q → T q') → T (p && q) → T (p' && q')
 both true true q q' f g h = g h
 both true false q q' f g h = f tt
+both false _ q q' f g h = elim h [ ]
 
 either : (p p' q q' : Bool) → (T p → T p') → (T q → T q') → T (p || q) → T (p' || q')
 either true true q q' f g h = tt
