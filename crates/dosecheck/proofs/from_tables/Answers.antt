@@ -29,7 +29,7 @@ returns-in_default c =
     let t = spelled b in
     c.refused.ensures
     ∙ ap₂ refused (c.ending_of.ensures ∙ ap ending_of c.in_default.is) c.nothing.ensures
-    ∙ sym (ap (λ (o : Outcome Reached Entry). answer (after o (from_step_2 t))) (step_refused no_data nothing (sound t) _ (sound_run no_data t ∙ ap outcome_of (refused_failed b c.pre.0 c.in_default.is))))
+    ∙ sym (ap (λ (o : Outcome Reached Entry). answer (after o (from_step_2 t))) (step_refused no_data nothing (sound t) _ (sound_run no_data t ∙ ap outcome_of (refused_failed b c.requires.0 c.in_default.is))))
 
 pub from_filling-requires : goal.from_filling-requires
 unfolding spelled shown
@@ -37,8 +37,8 @@ from_filling-requires c =
     let a = c.args in
     let b = lents a.t640.now a.t641.now a.t642.now a.t643.now a.t649.now a.t730.now a.t070.now in
     let told = c.in-Sound.is in
-    let see = all_sees b (sound_seen b c.pre.0 told) in
-    (c.pre.1, all_sound b c.pre.0 told T649, all_sound b c.pre.0 told T070, see.0, see.1, see.2, see.3, see.4, see.5, see.6)
+    let see = all_sees b (sound_seen b c.requires.0 told) in
+    (c.requires.1, all_sound b c.requires.0 told T649, all_sound b c.requires.0 told T070, see.0, see.1, see.2, see.3, see.4, see.5, see.6)
 
 pub returns : goal.returns
 unfolding up_to_step_2 before_step_2 ◌>>◌ spelled shown
@@ -48,4 +48,4 @@ returns c =
     let t = spelled b in
     c.from_filling.ensures
     ∙ ap answer (linked t a.e)
-    ∙ sym (ap (λ (o : Outcome Reached Entry). answer (after o (from_step_2 t))) (step_chosen no_data nothing (sound t) _ (sound_run no_data t ∙ ap outcome_of (sound_passed b c.pre.0 c.in-Sound.is))))
+    ∙ sym (ap (λ (o : Outcome Reached Entry). answer (after o (from_step_2 t))) (step_chosen no_data nothing (sound t) _ (sound_run no_data t ∙ ap outcome_of (sound_passed b c.requires.0 c.in-Sound.is))))

@@ -20,7 +20,7 @@ pub returns-then-not-may_suppress : goal.returns-then-not-may_suppress
 returns-then-not-may_suppress c =
     let a = c.args in
     let t = kept a.t643.now a.v a.s in
-    ap (run (datum a.d)) (suppresses_not (rows T649 a.t649.now) a.p a.c t (sym c.may_suppress.ensures ∙ not-true _ c.if-not-may_suppress.true))
+    ap (run (datum a.d)) (suppresses_not (rows T649 a.t649.now) a.p a.c t (sym c.may_suppress.ensures ∙ c.if-not-may_suppress.true))
 
 pub from_weight-requires : goal.from_weight-requires
 from_weight-requires c =
@@ -33,6 +33,6 @@ returns c =
     let l = a.t643.now in
     let limits = rows T649 a.t649.now in
     let per_day = ap (kept l a.v) c.by_frequency-per_day.ensures ∙ joined_kept l a.v a.s (and_frequency a.s PerDay) PerDay (λ r. frequency_joins a.s r PerDay c.requires.4) in
-    ap (run (datum a.d)) (suppresses_perhaps limits a.p a.c (kept l a.v a.s) (sym c.may_suppress.ensures ∙ not-false _ c.if-not-may_suppress.false))
+    ap (run (datum a.d)) (suppresses_perhaps limits a.p a.c (kept l a.v a.s) (sym c.may_suppress.ensures ∙ c.if-not-may_suppress.false))
     ∙ sym (ap (λ (t : Table Row643). run (datum a.d) (from_weight limits a.p a.c.ratio t)) per_day)
     ∙ c.from_weight.ensures

@@ -5,7 +5,7 @@ pub returns-in-EntryOutOfRange : goal.returns-in-EntryOutOfRange
 returns-in-EntryOutOfRange c = rw (c.says.ensures, c.in-EntryOutOfRange.is)
 
 pub returns-in-NotWhole : goal.returns-in-NotWhole
-returns-in-NotWhole c = rw (c.in-NotWhole.is, ← c.number_of_lem.ensures) c.says-in-NotWhole.ensures
+returns-in-NotWhole c = rw (c.in-NotWhole.is, ← c.number_of.ensures) c.says-in-NotWhole.ensures
 
 pub returns-in-OutOfRange : goal.returns-in-OutOfRange
 returns-in-OutOfRange c = rw (c.in-OutOfRange.is, ← c.number_of-in-OutOfRange.ensures) c.says-in-OutOfRange.ensures

@@ -16,7 +16,7 @@ row_in_range-requires c = (c.requires.0, omega arith)
 pub returns-then-not-row_in_range : goal.returns-then-not-row_in_range
 returns-then-not-row_in_range c =
     let a = c.args in
-    sym (found_unsound a.n a.t.now a.v c.loop-i.i (omega arith) (sym c.row_in_range.ensures ∙ not-true _ c.if-not-row_in_range.true))
+    sym (found_unsound a.n a.t.now a.v c.loop-i.i (omega arith) (sym c.row_in_range.ensures ∙ c.if-not-row_in_range.true))
 
 pub overflow_add-i : goal.overflow_add-i
 overflow_add-i c = let h = c.requires.0.few in search (h, rules)
@@ -24,7 +24,7 @@ overflow_add-i c = let h = c.requires.0.few in search (h, rules)
 pub loop-i-preserved : goal.loop-i-preserved
 loop-i-preserved c =
     let a = c.args in
-    one_tested a.n a.t.now a.v c.loop-i.invariant (omega arith) (sym c.row_in_range.ensures ∙ not-false _ c.if-not-row_in_range.false)
+    one_tested a.n a.t.now a.v c.loop-i.invariant (omega arith) (sym c.row_in_range.ensures ∙ c.if-not-row_in_range.false)
 
 pub returns : goal.returns
 returns c =

@@ -5,7 +5,7 @@ use Rattle.ranges.proofs.rows.row_in_range.Goals as goal
 pub row-requires : goal.row-requires
 row-requires c =
     let a = c.args in
-    known_inside c.in-T640.is a.t.now a.v a.i c.pre
+    known_inside c.in-T640.is a.t.now a.v a.i c.requires
 
 pub returns-in-T640 : goal.returns-in-T640
 returns-in-T640 c =
@@ -15,7 +15,7 @@ returns-in-T640 c =
 pub row-requires-in-T641 : goal.row-requires-in-T641
 row-requires-in-T641 c =
     let a = c.args in
-    known_inside c.in-T641.is a.t.now a.v a.i c.pre
+    known_inside c.in-T641.is a.t.now a.v a.i c.requires
 
 pub returns-in-T641 : goal.returns-in-T641
 returns-in-T641 c =
@@ -25,7 +25,7 @@ returns-in-T641 c =
 pub row-requires-in-T642 : goal.row-requires-in-T642
 row-requires-in-T642 c =
     let a = c.args in
-    known_inside c.in-T642.is a.t.now a.v a.i c.pre
+    known_inside c.in-T642.is a.t.now a.v a.i c.requires
 
 pub returns-in-T642 : goal.returns-in-T642
 returns-in-T642 c =
@@ -35,7 +35,7 @@ returns-in-T642 c =
 pub row-requires-in-T643 : goal.row-requires-in-T643
 row-requires-in-T643 c =
     let a = c.args in
-    known_inside c.in-T643.is a.t.now a.v a.i c.pre
+    known_inside c.in-T643.is a.t.now a.v a.i c.requires
 
 pub returns-in-T643 : goal.returns-in-T643
 returns-in-T643 c =
@@ -45,7 +45,7 @@ returns-in-T643 c =
 pub row-requires-in-T649 : goal.row-requires-in-T649
 row-requires-in-T649 c =
     let a = c.args in
-    known_inside c.in-T649.is a.t.now a.v a.i c.pre
+    known_inside c.in-T649.is a.t.now a.v a.i c.requires
 
 pub returns-in-T649 : goal.returns-in-T649
 returns-in-T649 c =
@@ -55,7 +55,7 @@ returns-in-T649 c =
 pub row-requires-in-T730 : goal.row-requires-in-T730
 row-requires-in-T730 c =
     let a = c.args in
-    known_inside c.in-T730.is a.t.now a.v a.i c.pre
+    known_inside c.in-T730.is a.t.now a.v a.i c.requires
 
 pub returns-in-T730 : goal.returns-in-T730
 returns-in-T730 c =
@@ -65,7 +65,7 @@ returns-in-T730 c =
 pub row-requires-in-T070 : goal.row-requires-in-T070
 row-requires-in-T070 c =
     let a = c.args in
-    known_inside c.in-T070.is a.t.now a.v a.i c.pre
+    known_inside c.in-T070.is a.t.now a.v a.i c.requires
 
 pub returns-in-T070 : goal.returns-in-T070
 returns-in-T070 c =

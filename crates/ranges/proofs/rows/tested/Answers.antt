@@ -23,7 +23,7 @@ row_in_range-requires c = (c.requires, omega arith)
 pub returns-then-not-row_in_range : goal.returns-then-not-row_in_range
 returns-then-not-row_in_range c =
     let a = c.args in
-    tested_out a.n a.t.now a.v (found_unsound a.n a.t.now a.v c.loop-i.i (omega arith) (sym c.row_in_range.ensures ∙ not-true _ c.if-not-row_in_range.true))
+    tested_out a.n a.t.now a.v (found_unsound a.n a.t.now a.v c.loop-i.i (omega arith) (sym c.row_in_range.ensures ∙ c.if-not-row_in_range.true))
 
 pub cell-key-requires : goal.cell-key-requires
 cell-key-requires c =
@@ -40,7 +40,7 @@ after_a_fall-requires c =
     let i = c.loop-i.i in
     let k = c.loop-i.invariant in
     let falls = falls_here f i (rw (← k.2, ← c.cell-key.ensures) c.if-key-last.true) in
-    (c.requires, one_tested a.n a.t.now a.v k.0 (omega arith) (sym c.row_in_range.ensures ∙ not-false _ c.if-not-row_in_range.false), subst (λ (j : ℕ). rises (key_of a.t.now a.v j) (i + 1) ≡ false) c.key_at-k.ensures falls)
+    (c.requires, one_tested a.n a.t.now a.v k.0 (omega arith) (sym c.row_in_range.ensures ∙ c.if-not-row_in_range.false), subst (λ (j : ℕ). rises (key_of a.t.now a.v j) (i + 1) ≡ false) c.key_at-k.ensures falls)
 
 pub returns-then-key-last : goal.returns-then-key-last
 returns-then-key-last c = c.after_a_fall.ensures
@@ -51,7 +51,7 @@ loop-i-preserved c =
     let f = key_of a.t.now a.v c.key_at-k.result in
     let i = c.loop-i.i in
     let k = c.loop-i.invariant in
-    (one_tested a.n a.t.now a.v k.0 (omega arith) (sym c.row_in_range.ensures ∙ not-false _ c.if-not-row_in_range.false), rises_on f i k.1 (rw (← k.2, ← c.cell-key.ensures) (omega arith)), rw (before_more f i) c.cell-key.ensures)
+    (one_tested a.n a.t.now a.v k.0 (omega arith) (sym c.row_in_range.ensures ∙ c.if-not-row_in_range.false), rises_on f i k.1 (rw (← k.2, ← c.cell-key.ensures) (omega arith)), rw (before_more f i) c.cell-key.ensures)
 
 pub returns : goal.returns
 returns c =

@@ -6,7 +6,7 @@ pub returns-in_default : goal.returns-in_default
 returns-in_default c = rw c.in_default.is
 
 pub returns-then-whole : goal.returns-then-whole
-returns-then-whole c = rw (c.in-Passed.is, sym c.whole.ensures ∙ c.if-whole.taken)
+returns-then-whole c = rw (c.in-Passed.is, sym c.whole.ensures ∙ c.if-whole.true)
 
 pub returns : goal.returns
-returns c = rw (c.in-Passed.is, sym c.whole.ensures ∙ c.if-whole.left)
+returns c = rw (c.in-Passed.is, sym c.whole.ensures ∙ c.if-whole.false)

@@ -16,15 +16,15 @@ use Rattle.selection.proofs.level.by_prk.Goals as goal
 pub returns-then-not-any : goal.returns-then-not-any
 unfolding by_prk when ask ◌>>=◌
 returns-then-not-any c =
-    rw (sym c.any.ensures ∙ not-true _ c.if-not-any.true) (c.by_base.ensures (datum c.args.d))
+    rw (sym c.any.ensures ∙ c.if-not-any.true) (c.by_base.ensures (datum c.args.d))
 
 pub returns-in_default : goal.returns-in_default
 unfolding by_prk when ask ◌>>=◌
 returns-in_default c =
-    rw (sym c.any.ensures ∙ not-false _ c.if-not-any.false, c.in_default.is)
+    rw (sym c.any.ensures ∙ c.if-not-any.false, c.in_default.is)
 
 pub returns : goal.returns
 returns c =
     let a = c.args in
     let t = among (keyed T641 a.gpk) (shown T641 a.t641.now a.v) in
-    c.of_prk.ensures (datum a.d) ∙ sym (ap chosen641 (prk_given t (datum a.d) (sym c.any.ensures ∙ not-false _ c.if-not-any.false) c.in-Given.is))
+    c.of_prk.ensures (datum a.d) ∙ sym (ap chosen641 (prk_given t (datum a.d) (sym c.any.ensures ∙ c.if-not-any.false) c.in-Given.is))

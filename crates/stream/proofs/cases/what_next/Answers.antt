@@ -31,11 +31,11 @@ unfolding what_next
 returns-then-not-can_lend c =
     let f = c.args.form in
     let b = c.args.got.now in
-    rw (le-leb front_length (length b) (omega arith), le-leb (case_length f b) longest_case (omega arith), le-leb (case_length f b) (length b) (omega arith), sym c.can_lend.ensures ∙ not-true _ c.if-not-can_lend.true)
+    rw (le-leb front_length (length b) (omega arith), le-leb (case_length f b) longest_case (omega arith), le-leb (case_length f b) (length b) (omega arith), sym c.can_lend.ensures ∙ c.if-not-can_lend.true)
 
 pub returns : goal.returns
 unfolding what_next
 returns c =
     let f = c.args.form in
     let b = c.args.got.now in
-    rw (le-leb front_length (length b) (omega arith), le-leb (case_length f b) longest_case (omega arith), le-leb (case_length f b) (length b) (omega arith), sym c.can_lend.ensures ∙ not-false _ c.if-not-can_lend.false)
+    rw (le-leb front_length (length b) (omega arith), le-leb (case_length f b) longest_case (omega arith), le-leb (case_length f b) (length b) (omega arith), sym c.can_lend.ensures ∙ c.if-not-can_lend.false)

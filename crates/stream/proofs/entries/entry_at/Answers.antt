@@ -3,4 +3,4 @@ use mathlib.Core.Path.{refl}
 use Rattle.stream.proofs.entries.entry_at.Goals as goal
 
 pub returns : goal.returns
-returns c = rw (c.rest_at.ensures, c.known_at_lem.ensures) refl
+returns c = rw (c.rest_at.ensures, c.known_at.ensures) refl

@@ -41,7 +41,7 @@ loop-i-preserved c =
     let inv = c.loop-i.invariant in
     let size = field_32 (get_or numbers i 0) c.separator.result (omega (arith, c.shared_slice_known-in-loop-i-1.given i)) in
     let put = put_number numbers i (omega arith) c.separator.ensures c.put_field-end.ensures in
-    (omega arith, omega (arith, c.put_field-end.ensures.place), c.put_field-end.auto.0 ∙ inv.2, put.0 ∙ inv.3, put.1 ∙ inv.4)
+    (omega arith, omega (arith, c.put_field-end.ensures.place), c.put_field-end.auto.out ∙ inv.2, put.0 ∙ inv.3, put.1 ∙ inv.4)
 
 pub shape_of-buf : goal.shape_of-buf
 shape_of-buf c = search rules

@@ -35,4 +35,4 @@ returns-in-1 c =
 pub returns-in_default : goal.returns-in_default
 returns-in_default c =
     let a = c.args in
-    asked_many T070 a.hpk a.t.now c.by_rows-all.ensures c.find-v.ensures found070 c.keyed-tally.ensures c.in-0.rest.0.1 c.in-0.rest.1
+    asked_many T070 a.hpk a.t.now c.by_rows-all.ensures c.find-v.ensures found070 c.keyed-tally.ensures (omega arith) (omega arith)

@@ -1,4 +1,5 @@
 -- What the tally tells is what the rows answer. Assumes nothing.
+use native.Mathlib.Omega.{arith}
 use mathlib.Core.Bool.{◌&&◌}
 use Rattle.guideline.specs.declared.rows.TableName.TheVariants.{T641}
 use Rattle.guideline.specs.Rows.{keyed}
@@ -23,4 +24,4 @@ returns-in-1 c =
 pub returns-in_default : goal.returns-in_default
 returns-in_default c =
     let a = c.args in
-    tells_many T641 a.t.now a.v (λ r. keyed T641 a.gpk r && test641 a.test r) found641 c.tally-tally.ensures c.in-0.rest.0.1 c.in-0.rest.1
+    tells_many T641 a.t.now a.v (λ r. keyed T641 a.gpk r && test641 a.test r) found641 c.tally-tally.ensures (omega arith) (omega arith)

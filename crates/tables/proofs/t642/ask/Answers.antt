@@ -1,4 +1,5 @@
 -- What the tally tells is what the rows answer. Assumes nothing.
+use native.Mathlib.Omega.{arith}
 use mathlib.Core.Bool.{◌&&◌}
 use Rattle.guideline.specs.declared.rows.TableName.TheVariants.{T642}
 use Rattle.guideline.specs.Rows.{keyed}
@@ -23,4 +24,4 @@ returns-in-1 c =
 pub returns-in_default : goal.returns-in_default
 returns-in_default c =
     let a = c.args in
-    tells_many T642 a.t.now a.v (λ r. keyed T642 a.basis r && test642 a.test r) found642 c.tally-tally.ensures c.in-0.rest.0.1 c.in-0.rest.1
+    tells_many T642 a.t.now a.v (λ r. keyed T642 a.basis r && test642 a.test r) found642 c.tally-tally.ensures (omega arith) (omega arith)

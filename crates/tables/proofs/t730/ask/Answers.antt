@@ -1,4 +1,5 @@
 -- What the tally tells is what the rows answer. Assumes nothing.
+use native.Mathlib.Omega.{arith}
 use mathlib.Core.Path.{sym, ◌∙◌, ap}
 use mathlib.Core.Bool.{◌&&◌}
 use Rattle.guideline.specs.declared.rows.TableName.TheVariants.{T730}
@@ -26,4 +27,4 @@ returns-in-1 c =
 pub returns-in_default : goal.returns-in_default
 returns-in_default c =
     let a = c.args in
-    tells_many T730 a.t.now a.v (λ r. keyed T730 a.code r && of_unit a.srtcde a.unit r) found730 c.tally-tally.ensures c.in-0.rest.0.1 c.in-0.rest.1 ∙ sym (ap found730 (ap (shown T730 a.t.now a.v) (unit_of_code a.srtcde a.code a.unit)))
+    tells_many T730 a.t.now a.v (λ r. keyed T730 a.code r && of_unit a.srtcde a.unit r) found730 c.tally-tally.ensures (omega arith) (omega arith) ∙ sym (ap found730 (ap (shown T730 a.t.now a.v) (unit_of_code a.srtcde a.code a.unit)))
