@@ -18,14 +18,8 @@ use Rattle.sieve.proofs.Kept.{some_missed, some_found}
 use Rattle.quiet.specs.Judged.{judged}
 use Rattle.quiet.proofs.Judging.{barred, freed}
 use Rattle.quiet.proofs.Looked.{looked_first, looked_on, looked_all}
+use Rattle.quiet.proofs.lower.lower.Invariants.{bars, more_than}
 use Rattle.quiet.proofs.lower.lower.Goals as goal
-
--- what keeps the signal, and what may suppress it
-abbrev bars : List ℕ → Row643 → Bool
-bars t649 r = not (minimum_empty (rows T649 t649) r)
-
-abbrev more_than : List ℕ → Prescription → Ratio → Row643 → Bool
-more_than t649 p q r = allows_more (rows T649 t649) p q r
 
 pub next-i-requires : goal.next-i-requires
 next-i-requires c = (fits_less 1 (omega arith) c.requires.0, omega arith)
