@@ -1,8 +1,18 @@
 -- Each way out is the one that step 4's plan takes. Assumes nothing.
 use borrow.Author.Tests.{eq-eqb, ne_eqb}
-use Rattle.guideline.specs.Ask.{◌>>=◌, ◌>>◌}
+use Prim.Native.Nat.{ℕ}
+use mathlib.Core.Path.{◌≡◌}
+use Rattle.guideline.specs.declared.rows.Row640.{Row640}
+use Rattle.guideline.specs.declared.entries.Data.{Data}
+use Rattle.guideline.specs.declared.entries.Value.TheVariants.{Given}
+use Rattle.guideline.specs.declared.refusals.Refusal.TheVariants.{Ends}
+use Rattle.guideline.specs.declared.refusals.Ending.TheVariants.{SexNotAllowed}
+use Rattle.guideline.specs.Entries.{datum}
+use Rattle.guideline.specs.Ask.{◌>>=◌, ◌>>◌, run}
 use Rattle.guideline.specs.Forms.{ask, when, demand, refuse}
 use Rattle.guideline.specs.Steps.{person}
+use Rattle.selection.specs.declared.chosen.ChosenAge.TheVariants.{Months, Refused as NoAge}
+use Rattle.selection.specs.Chosen.{chosen_age}
 use Rattle.selection.proofs.person.person.Goals as goal
 
 pub returns-in_default : goal.returns-in_default
@@ -17,10 +27,17 @@ pub returns-in_default-sex : goal.returns-in_default-sex
 unfolding person ask when demand refuse ◌>>=◌ ◌>>◌
 returns-in_default-sex c = simp (c.in-Given.is, ne_eqb _ _ c.if-p-eq-BOTH.false, c.in_default-sex.is)
 
+module _ (r : Row640) (x : Data) (n own : ℕ) (age : x.age ≡ Given n) (sex : x.sex ≡ Given own) (one : r.gpdgst ≡ 3 → ⊥) where
+  allowed : own ≡ r.gpdgst → Months n ≡ chosen_age (run (datum x) (person r))
+  unfolding person ask when demand refuse ◌>>=◌ ◌>>◌
+  allowed e = simp (age, ne_eqb _ _ one, sex) (rw (eq-eqb _ _ e, chosen_age))
+
+  barred : (own ≡ r.gpdgst → ⊥) → NoAge (Ends SexNotAllowed) ≡ chosen_age (run (datum x) (person r))
+  unfolding person ask when demand refuse ◌>>=◌ ◌>>◌
+  barred e = simp (age, ne_eqb _ _ one, sex) (rw (ne_eqb _ _ e, chosen_age))
+
 pub returns-then-own-p : goal.returns-then-own-p
-unfolding person ask when demand refuse ◌>>=◌ ◌>>◌
-returns-then-own-p c = simp (c.in-Given.is, ne_eqb _ _ c.if-p-eq-BOTH.false, c.in-Given-sex.is) (rw (eq-eqb _ _ c.if-own-p.true))
+returns-then-own-p c = allowed c.args.p c.args.d c.in-Given.months c.in-Given-sex.own c.in-Given.is c.in-Given-sex.is c.if-p-eq-BOTH.false c.if-own-p.true
 
 pub returns : goal.returns
-unfolding person ask when demand refuse ◌>>=◌ ◌>>◌
-returns c = simp (c.in-Given.is, ne_eqb _ _ c.if-p-eq-BOTH.false, c.in-Given-sex.is) (rw (ne_eqb _ _ c.if-own-p.false))
+returns c = barred c.args.p c.args.d c.in-Given.months c.in-Given-sex.own c.in-Given.is c.in-Given-sex.is c.if-p-eq-BOTH.false c.if-own-p.false
