@@ -19,17 +19,13 @@ wanted_of-w-requires c =
     (rw c.in-Range.is at pre.0.inside, pre.1)
 
 -- a case that wants a longer list is not answered
-short : (c : tie.After-put-arg2) → c.before.wanted_of.result.places ≤ most_places
-unfolding lendable
-short c =
-    let a = c.before.before.before.before.before.before.before.before.before.before.before.before.before.before.args in
-    let pre = c.before.before.before.before.before.before.before.before.before.before.before.before.before.before.requires in
-    rw c.before.wanted_of.ensures (list_lendable a.case.now (entry_count a.case.now) a.i pre.1 (rw c.before.before.enum-told2.given.1 at pre.0.lists))
-
 pub put-requires-in-Range : goal.put-requires-in-Range
+unfolding lendable
 put-requires-in-Range c =
+    let a = c.args in
     let pre = c.requires in
-    (rw pre.3 pre.2, short c, rw c.in-Range.is at pre.4)
+    let short : c.wanted_of-w.result.places ≤ most_places = rw c.wanted_of-w.ensures (list_lendable a.case.now (entry_count a.case.now) a.i pre.1 (rw c.in-Range.is at pre.0.lists)) in
+    (rw pre.3 pre.2, short, rw c.in-Range.is at pre.4)
 
 pub returns-in-Single : goal.returns-in-Single
 returns-in-Single c =

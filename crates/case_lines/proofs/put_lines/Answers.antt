@@ -55,7 +55,7 @@ loop-i-preserved c =
     let a = c.args in
     let loop = c.loop-i in
     let put = c.put_entry-end in
-    (omega arith, omega (arith, c.loop-i-test.true), omega (arith, put.auto.1.1.1.1.1.1.1.1.1.1.1.0, put.ensures.1, c.if-out-end.false, c.longest-longest.ensures), put.auto.1.1.1.1.1.1.1.1.1.1.1.0 ∙ loop.invariant.3, one_more a.f a.case.now a.out.now loop.out _ a.from loop.i a.at loop.end put.result (loop.i + 1) loop.invariant.0 loop.invariant.4 put.ensures.0 refl)
+    (omega arith, omega (arith, c.loop-i-test.true), omega (arith, put.auto.out, put.ensures.1, c.if-out-end.false, c.longest-longest.ensures), put.auto.out ∙ loop.invariant.3, one_more a.f a.case.now a.out.now loop.out _ a.from loop.i a.at loop.end put.result (loop.i + 1) loop.invariant.0 loop.invariant.4 put.ensures.0 refl)
 
 pub shape_of-out : goal.shape_of-out
 shape_of-out c = c.loop-i.invariant.3

@@ -48,7 +48,7 @@ loop-i-preserved c =
     let t = spelled (lents args.t640.now args.t641.now args.t642.now args.t643.now args.t649.now args.t730.now args.t070.now) in
     let asked = c.on_unless_given-asked.result in
     let said = answered t asked (args.first + loop.i) c.with_count-one.ensures c.check_after-a.ensures c.numbers.ensures in
-    (omega (arith, c.loop-i-test.true), c.put_numbers.auto.0 ∙ loop.invariant.1, one_more (λ k. single t asked (args.first + k)) answer_length (λ k. refl) args.list.now loop.list _ loop.i (loop.i + 1) refl (omega (arith, pre.1, c.loop-i-test.true)) loop.invariant.2 (rw said at c.put_numbers.ensures))
+    (omega (arith, c.loop-i-test.true), c.put_numbers.auto.list ∙ loop.invariant.1, one_more (λ k. single t asked (args.first + k)) answer_length (λ k. refl) args.list.now loop.list _ loop.i (loop.i + 1) refl (omega (arith, pre.1, c.loop-i-test.true)) loop.invariant.2 (rw said at c.put_numbers.ensures))
 
 pub shape_of-list : goal.shape_of-list
 shape_of-list c = c.loop-i.invariant.1

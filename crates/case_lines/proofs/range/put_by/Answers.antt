@@ -7,7 +7,7 @@ pub put_counted-requires : goal.put_counted-requires
 put_counted-requires c =
     let a = c.args in
     let answer = c.answer-counted in
-    (answers_in_list (lents a.t640.now a.t641.now a.t642.now a.t643.now a.t649.now a.t730.now a.t070.now) a.e a.w a.list.now _ c.requires.1 answer.result answer.ensures answer.auto.1.1.1.1.1.1.1.1.1.1.1.0, c.requires.2)
+    (answers_in_list (lents a.t640.now a.t641.now a.t642.now a.t643.now a.t649.now a.t730.now a.t070.now) a.e a.w a.list.now _ c.requires.1 answer.result answer.ensures answer.auto.list, c.requires.2)
 
 pub returns : goal.returns
 returns c =
