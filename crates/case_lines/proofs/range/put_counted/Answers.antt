@@ -16,11 +16,9 @@ put_places-requires c =
 
 pub returns-in-All : goal.returns-in-All
 returns-in-All c =
-    let many = c.counted-1.given in
-    let short : (many.0.0 ≤ most_counts) × (many.0.0 * answer_length ≤ length c.args.list.now) = rw many.1 at c.requires.0 in
-    (rw many.1 c.put_places.ensures.0, omega (arith, short.0, c.put_places.ensures.1))
+    let short : (c.in-All.n ≤ most_counts) × (c.in-All.n * answer_length ≤ length c.args.list.now) = rw c.in-All.is at c.requires.0 in
+    (rw c.in-All.is c.put_places.ensures.0, omega (arith, short.0, c.put_places.ensures.1))
 
 pub returns-in-Refused : goal.returns-in-Refused
 returns-in-Refused c =
-    let why = c.counted-in-Refused-1.given in
-    (rw why.1 (line_of_these _ (refusal_number why.0.0 ∷ []) c.put_numbers.ensures.0 (ap (λ (n : ℕ). n ∷ []) c.number.ensures)), omega (arith, c.put_numbers.ensures.1))
+    (rw c.in-Refused.is (line_of_these _ (refusal_number c.in-Refused.why ∷ []) c.put_numbers.ensures.0 (ap (λ (n : ℕ). n ∷ []) c.number.ensures)), omega (arith, c.put_numbers.ensures.1))

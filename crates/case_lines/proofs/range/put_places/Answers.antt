@@ -47,7 +47,7 @@ loop-i-preserved c =
     let long : length (take (i * answer_length + answer_length - i * answer_length) (drop (i * answer_length) list)) ≡ answer_length = part_long list i (i * answer_length) (i * answer_length + answer_length - i * answer_length) refl (omega arith) (omega (arith, c.requires.0, c.loop-i-test.true)) in
     let inv = c.loop-i.invariant in
     let put = c.put_numbers-end.ensures in
-    (omega (arith, c.loop-i-test.true), c.put_numbers-end.auto.out ∙ inv.1, omega (arith, put.1, inv.2), put_next (λ k. line (numbers_at k list)) _ _ _ _ _ _ i (i + 1) inv.3 (place_put list i (i * answer_length) (i * answer_length + answer_length - i * answer_length) put.0 refl (omega arith)) refl)
+    (omega (arith, c.loop-i-test.true), c.put_numbers-end.auto.buf ∙ inv.1, omega (arith, put.1, inv.2), put_next (λ k. line (numbers_at k list)) _ _ _ _ _ _ i (i + 1) inv.3 (place_put list i (i * answer_length) (i * answer_length + answer_length - i * answer_length) put.0 refl (omega arith)) refl)
 
 pub shape_of-out : goal.shape_of-out
 shape_of-out c = c.loop-i.invariant.1
