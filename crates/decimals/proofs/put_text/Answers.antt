@@ -1,9 +1,8 @@
-use Prim.Native.Nat.{◌-◌}
 use mathlib.Core.Path.{◌≡◌, refl}
 use native.Mathlib.Omega.{arith}
 use borrow.Author.Rules.{rules}
-use lib.ListN.{length, take, length-set}
-use lib.Seq.{sets, take_all}
+use lib.ListN.{length, length-set}
+use lib.Seq.{take_all}
 use Rattle.decimals.proofs.Puts.{sets_next}
 use Rattle.decimals.proofs.put_text.Goals as goal
 
