@@ -2,18 +2,22 @@
 use Prim.Native.Nat.{ℕ}
 use mathlib.Core.List.{List, [], ◌∷◌, ◌++◌}
 use mathlib.Core.Path.{◌≡◌, refl}
+use native.Mathlib.Omega.{arith}
 use lib.ListN.{replicate}
 use Rattle.numbers.specs.Words.{word, long, word_bytes}
-use Rattle.decimals.specs.Decimal.{decimals, decimal, field}
+use Rattle.decimals.specs.Decimal.{space, decimals, decimal, field}
+use Rattle.decimals.proofs.Decimal.{decimal_more}
 use Rattle.records.specs.Ascii.{ascii}
+use Rattle.records.specs.Digits.{chars}
 use Rattle.records.specs.File.{reading, writing, leaves}
 use Rattle.records.specs.Layout.{every, values, numbers, scan, fits, answer, leaving}
+use Rattle.records.specs.Numbers.{read_numbers}
 use Rattle.records_730.specs.File730.{file_730}
 use Rattle.records_070.specs.File070.{file_070}
-use Rattle.call_lines.specs.Lines.{spaced, read_line, hex, write_line}
+use Rattle.call_lines.specs.Lines.{front, spaced, read_line, hex, write_line}
 use Rattle.call_stream.specs.Calls.{asked, found}
 use Rattle.call_stream.specs.Lines.{broken_line, line_of, last_line}
-use Rattle.call_stream.specs.declared.calls.Found.TheVariants.{More, Broken}
+use Rattle.call_stream.specs.declared.calls.Found.TheVariants.{Read070, More, Broken}
 
 -- the file, what is asked, the length
 front_of : ℕ → ℕ → ℕ → List ℕ
@@ -31,9 +35,38 @@ haldol_line = refl
 mixtard : List ℕ
 mixtard = front_of 70 0 64 ++ (ascii "00700007090500006591900000100111368000003000003" ++ replicate 17 32)
 
+-- computed whole, 709050 nests too deep: its last digit apart, and so the line in parts
+hpk_tenth : decimal 70905 ≡ ascii "70905"
+unfolding decimal decimals
+hpk_tenth = refl
+
+hpk : field 709050 space ≡ ascii "709050 "
+unfolding field
+hpk = rw (decimal_more 709050 (omega arith), hpk_tenth)
+
+mixtard_found : found mixtard ≡ Read070 64
+unfolding front_of mixtard word_bytes word found asked
+mixtard_found = refl
+
+mixtard_read : read_numbers file_070 (reading file_070 (chars mixtard front 64)) ≡ 0 ∷ 0 ∷ 709050 ∷ 65919 ∷ 1 ∷ 111368 ∷ 3 ∷ 3 ∷ []
+unfolding front_of mixtard word_bytes file_070 reading scan every numbers values
+mixtard_read = refl
+
+behind_hpk : spaced 65919 (1 ∷ 111368 ∷ 3 ∷ 3 ∷ []) ≡ ascii "65919 1 111368 3 3" ++ (10 ∷ [])
+unfolding spaced field decimal decimals
+behind_hpk = refl
+
+before_hpk : field 0 space ≡ ascii "0 "
+unfolding field decimal decimals
+before_hpk = refl
+
+mixtard_shown : read_line (0 ∷ 0 ∷ 709050 ∷ 65919 ∷ 1 ∷ 111368 ∷ 3 ∷ 3 ∷ []) ≡ ascii "0 0 709050 65919 1 111368 3 3" ++ (10 ∷ [])
+unfolding read_line spaced
+mixtard_shown = rw (before_hpk, hpk, behind_hpk)
+
 mixtard_line : line_of (found mixtard) mixtard ≡ ascii "0 0 709050 65919 1 111368 3 3" ++ (10 ∷ [])
-unfolding front_of mixtard word_bytes word found asked line_of read_line spaced field decimal decimals file_070 reading scan every numbers values
-mixtard_line = refl
+unfolding line_of
+mixtard_line = rw (mixtard_found, mixtard_read) mixtard_shown
 
 -- a refusal's number alone
 short : List ℕ

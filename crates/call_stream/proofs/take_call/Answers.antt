@@ -6,14 +6,26 @@ use Rattle.call_stream.specs.Takes.{taken}
 use Rattle.call_stream.proofs.Taking.{within, takes}
 use Rattle.call_stream.proofs.take_call.Goals as goal
 
+pub overflow_add-result : goal.overflow_add-result
+overflow_add-result c = omega (arith, within _ _ _ c.find-found.ensures c.in-Read730.is)
+
 pub put_read_730-requires : goal.put_read_730-requires
 put_read_730-requires c = omega (arith, within _ _ _ c.find-found.ensures c.in-Read730.is)
+
+pub overflow_add-result-in-Write730 : goal.overflow_add-result-in-Write730
+overflow_add-result-in-Write730 c = omega (arith, within _ _ _ c.find-found.ensures c.in-Write730.is)
 
 pub put_write_730-requires : goal.put_write_730-requires
 put_write_730-requires c = omega (arith, within _ _ _ c.find-found.ensures c.in-Write730.is)
 
+pub overflow_add-result-in-Read070 : goal.overflow_add-result-in-Read070
+overflow_add-result-in-Read070 c = omega (arith, within _ _ _ c.find-found.ensures c.in-Read070.is)
+
 pub put_read_070-requires : goal.put_read_070-requires
 put_read_070-requires c = omega (arith, within _ _ _ c.find-found.ensures c.in-Read070.is)
+
+pub overflow_add-result-in-Write070 : goal.overflow_add-result-in-Write070
+overflow_add-result-in-Write070 c = omega (arith, within _ _ _ c.find-found.ensures c.in-Write070.is)
 
 pub put_write_070-requires : goal.put_write_070-requires
 put_write_070-requires c = omega (arith, within _ _ _ c.find-found.ensures c.in-Write070.is)

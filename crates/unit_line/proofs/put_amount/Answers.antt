@@ -5,38 +5,19 @@ use Rattle.decimals.specs.Decimal.{space}
 use lib.ListN.{length-set}
 use Rattle.unit_line.proofs.Pieces.{amount_pieces, length_amount, sets_four}
 use Rattle.decimals.proofs.Puts.{put_on}
-use borrow.Author.Rules.{rules}
 use Rattle.unit_line.proofs.put_amount.Goals as goal
 
 pub put_field-end-requires : goal.put_field-end-requires
 put_field-end-requires c = omega (arith, length_amount c.args.n)
 
-pub overflow_cast-out : goal.overflow_cast-out
-overflow_cast-out c = search rules
-
-pub overflow_add-out : goal.overflow_add-out
-overflow_add-out c = search rules
-
 pub bounds-out-end : goal.bounds-out-end
 bounds-out-end c = omega (arith, length_amount c.args.n)
-
-pub overflow_cast-out-2 : goal.overflow_cast-out-2
-overflow_cast-out-2 c = search rules
-
-pub overflow_add-out-2 : goal.overflow_add-out-2
-overflow_add-out-2 c = search rules
 
 pub overflow_add-out-3 : goal.overflow_add-out-3
 overflow_add-out-3 c = omega (arith, length_amount c.args.n)
 
 pub bounds-out-end-2 : goal.bounds-out-end-2
 bounds-out-end-2 c = simp length-set (omega (arith, length_amount c.args.n))
-
-pub overflow_cast-out-3 : goal.overflow_cast-out-3
-overflow_cast-out-3 c = search rules
-
-pub overflow_add-out-4 : goal.overflow_add-out-4
-overflow_add-out-4 c = search rules
 
 pub overflow_add-out-5 : goal.overflow_add-out-5
 overflow_add-out-5 c = omega (arith, length_amount c.args.n)
@@ -53,15 +34,12 @@ bounds-out-end-4 c = simp length-set (omega (arith, length_amount c.args.n))
 pub overflow_add-result : goal.overflow_add-result
 overflow_add-result c = omega (arith, length_amount c.args.n)
 
-pub shape_of-out : goal.shape_of-out
-shape_of-out c = search rules
-
 pub returns : goal.returns
 returns c =
     let d = c.args.n % 1000 in
     rw (amount_pieces c.args.n)
     (put_on c.put_field-end.ensures
     (record {
-      bytes = sets_four c.put_field-end.new.0 c.put_field-end.result (48 + d / 10 / 10 % 10) (48 + d / 10 % 10) (48 + d % 10) space;
+      bytes = sets_four c.put_field-end.new.out c.put_field-end.result (48 + d / 10 / 10 % 10) (48 + d / 10 % 10) (48 + d % 10) space;
       place = refl;
     }))

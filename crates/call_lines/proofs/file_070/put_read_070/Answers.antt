@@ -1,6 +1,9 @@
 -- The record is read from the bytes behind the numbers: its numbers, or the refusal's. Assumes nothing.
+use Prim.Native.Nat.{ℕ, ◌+◌, ◌-◌}
+use mathlib.Core.List.{List}
 use mathlib.Core.Path.{◌≡◌, sym, ap, ◌∙◌}
 use native.Mathlib.Omega.{arith}
+use lib.ListN.{take, drop}
 use Rattle.decimals.specs.Decimal.{line_feed}
 use Rattle.decimals.proofs.Decimal.{field_64}
 use Rattle.records.specs.Digits.{chars}
@@ -13,17 +16,18 @@ use Rattle.call_lines.proofs.Parts.{part_of}
 use Rattle.call_lines.proofs.file_070.put_read_070.Goals as goal
 
 -- what the bytes say, by what was read
-said-by : (c : tie.After-read-070) (v : Read070) → c.read-070.result ≡ v → reading file_070 (chars c.before.before.before.before.args.s.now front c.before.before.before.before.args.n) ≡ says_070 v
-said-by c v e = sym (c.read-070.ensures ∙ ap (reading file_070) (part_of c.before.before.before.before.args.s.now front c.before.before.before.before.args.n)) ∙ ap says_070 e
+said_by : (s : List ℕ) (n : ℕ) (read v : Read070) → says_070 read ≡ reading file_070 (take (front + n - front) (drop front s)) → read ≡ v →
+    reading file_070 (chars s front n) ≡ says_070 v
+said_by s n read v read_is e = sym (read_is ∙ ap (reading file_070) (part_of s front n)) ∙ ap says_070 e
 
 pub put_field-requires : goal.put_field-requires
 put_field-requires c = omega (arith, field_64 c.read_number.result line_feed (omega arith))
 
 pub returns-in-Record : goal.returns-in-Record
-returns-in-Record c = (rw (said-by c _ c.in-Record.is) c.put_record.ensures.0, c.put_record.ensures.1)
+returns-in-Record c = (rw (said_by c.args.s.now c.args.n _ _ c.read_070-read.ensures c.in-Record.is) c.put_record.ensures.0, c.put_record.ensures.1)
 
 pub returns-in-Refused : goal.returns-in-Refused
 returns-in-Refused c =
     let number = c.read_number in
     let field = c.put_field.ensures in
-    (rw (said-by c _ c.in-Refused.is, refused_line file_070 _, ← number.ensures) field, omega (arith, field.place, field_64 number.result line_feed (omega arith)))
+    (rw (said_by c.args.s.now c.args.n _ _ c.read_070-read.ensures c.in-Refused.is, refused_line file_070 _, ← number.ensures) field, omega (arith, field.place, field_64 number.result line_feed (omega arith)))

@@ -13,8 +13,8 @@ returns c =
     let record_is = c.record_070-r.ensures in
     let place_is = c.long-place.ensures in
     let w = c.write_070-written in
-    let shown = c.Put-written.ensures in (
-      rw (line_left file_070 front_070 s n (omega arith) _ _ _ _ record_is place_is _ (c.write_number.ensures ∙ w.ensures.0) w.ensures.1 w.auto.0) at shown.0,
+    let shown = c.put_written.ensures in (
+      rw (line_left file_070 front_070 s n (omega arith) _ _ _ _ record_is place_is _ (c.write_number.ensures ∙ w.ensures.0) w.ensures.1 w.auto.buf) at shown.0,
       shown.1,
       call_left file_070 front_070 s n (omega arith) _ _ _ _ record_is place_is w.ensures.1,
     )

@@ -1,9 +1,7 @@
 -- `put_hex` meets its contract: the bytes that are left complete the text. Assumes nothing.
-use Prim.Native.Nat.{◌-◌}
 use mathlib.Core.Path.{refl, ◌∙◌}
 use native.Mathlib.Omega.{arith}
-use lib.ListN.{length, length-set}
-use Rattle.call_lines.specs.Lines.{hex}
+use lib.ListN.{length-set}
 use Rattle.call_lines.proofs.Lining.{hex_turn, hex_end}
 use Rattle.call_lines.proofs.hex.put_hex.Goals as goal
 
@@ -11,7 +9,7 @@ pub loop-i-init : goal.loop-i-init
 loop-i-init c = (omega arith, omega arith, refl, refl)
 
 pub hex_digit-requires : goal.hex_digit-requires
-hex_digit-requires c = omega (arith, c.shared_slice_known-in-loop-i-1.given c.loop-i.i)
+hex_digit-requires c = omega (arith, c.type_inv.bytes c.loop-i.i)
 
 pub bounds-out-end-in-loop-i : goal.bounds-out-end-in-loop-i
 bounds-out-end-in-loop-i c = simp length-set (omega arith)

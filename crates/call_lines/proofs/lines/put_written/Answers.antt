@@ -29,5 +29,4 @@ unfolding write_line
 returns c = (
   put_on c.put_field-bytes.ensures (put_on c.put_hex-end.ensures (record { bytes = refl; place = refl })),
   omega (arith, c.put_field-bytes.ensures.place, c.put_hex-end.ensures.place, field_64 c.args.number space (omega arith), length_hex c.args.buffer.now),
-
 )

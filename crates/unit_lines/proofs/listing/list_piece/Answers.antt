@@ -11,7 +11,7 @@ pub returns : goal.returns
 returns c =
     let m = c.args.m in
     let e : length m.bytes ≡ 66 = search rules in
-    let p : Feeds m c.args.input.now 0 c.args.out.now 0 c.feed-fed.new.1.1.1.0 c.feed-fed.result = c.feed-fed.ensures in
+    let p : Feeds m c.args.input.now 0 c.args.out.now 0 c.feed-fed.new.out c.feed-fed.result = c.feed-fed.ensures in
     lists (omega (arith, length-take m.len m.bytes)) c.requires p
 
 pub shape_of-out : goal.shape_of-out

@@ -7,7 +7,7 @@ use Rattle.unit_lines.proofs.listing.list_rest.Goals as goal
 
 pub returns-in-Line : goal.returns-in-Line
 returns-in-Line c =
-    let p : Finishes c.args.m c.args.out.now 0 c.finish-last.new.1.0 c.finish-last.result = c.finish-last.ensures in
+    let p : Finishes c.args.m c.args.out.now 0 c.finish-last.new.out c.finish-last.result = c.finish-last.ensures in
     rests c.requires p _ (sym (ap written_by c.in-Line.is))
 
 pub returns-in-NoRecord : goal.returns-in-NoRecord

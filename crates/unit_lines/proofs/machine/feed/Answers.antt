@@ -1,27 +1,11 @@
 use mathlib.Core.Path.{sym, ◌∙◌}
-use mathlib.Core.Logic.{⊎_elim}
 use borrow.Author.Tests.{leb-true, leb-false}
 use Rattle.unit_lines.proofs.Feeding.{feeds_nothing, past_input, no_room}
-use borrow.Author.Rules.{rules}
 use Rattle.unit_lines.proofs.machine.feed.Goals as goal
-
-pub has_room-requires : goal.has_room-requires
-has_room-requires c = search rules
+use Rattle.unit_lines.proofs.machine.feed.Goals.{then-from-input+else-has_room, else-from-input}
 
 pub feed_on-requires : goal.feed_on-requires
 feed_on-requires c = (c.if-from-input.true, leb-true _ _ (sym c.has_room.ensures ∙ c.if-has_room.true))
-
-pub shape_of-out-then-has_room : goal.shape_of-out-then-has_room
-shape_of-out-then-has_room c = search rules
-
-pub returns-then-has_room : goal.returns-then-has_room
-returns-then-has_room c = search rules
-
-pub slice_bounds-grown-end : goal.slice_bounds-grown-end
-slice_bounds-grown-end c = search rules
-
-pub grown-requires : goal.grown-requires
-grown-requires c = search rules
 
 pub returns : goal.returns
 returns c =
@@ -30,4 +14,9 @@ returns c =
     let from = c.args.from in
     let out = c.args.out.now in
     let at = c.args.at in
-    feeds_nothing m input from out at _ (⊎_elim (λ w. no_room m input from out at (leb-false _ _ (sym w.1.ensures ∙ w.2.left))) (λ w. past_input m input from out at w.left) c.if-from-input.branch) c.grown.ensures
+    feeds_nothing m input from out at _
+    (elim c.if-from-input.branch [
+      | then-from-input+else-has_room w ↦ no_room m input from out at (leb-false _ _ (sym w.has_room.ensures ∙ w.if-has_room.false))
+      | else-from-input w ↦ past_input m input from out at w.if-from-input.false
+    ])
+    c.grown.ensures

@@ -3,31 +3,12 @@ use native.Mathlib.Omega.{arith}
 use Rattle.unit_lines.proofs.Feeding.{end_inside, feeds_text, begun_some, feeds_records}
 use Rattle.unit_lines.proofs.Longest.{longest}
 use Rattle.unit_lines.proofs.Whole.{put_inside, put_length}
-use borrow.Author.Rules.{rules}
 use Rattle.unit_lines.proofs.machine.feed_on.Goals as goal
-
-pub last_of-requires : goal.last_of-requires
-last_of-requires c = search rules
-
-pub find_end-e-requires : goal.find_end-e-requires
-find_end-e-requires c = search rules
-
-pub slice_bounds-grown-count : goal.slice_bounds-grown-count
-slice_bounds-grown-count c = search rules
-
-pub slice_bounds-grown-start : goal.slice_bounds-grown-start
-slice_bounds-grown-start c = search rules
 
 pub slice_bounds-grown-end : goal.slice_bounds-grown-end
 slice_bounds-grown-end c =
     let f = rw c.last_of.ensures at c.find_end-e.ensures in
     omega (arith, end_inside c.args.m c.args.input.now c.args.from c.args.out.now c.args.at c.find_end-e.result c.requires.0 c.requires.1 f)
-
-pub grown-begun-requires : goal.grown-begun-requires
-grown-begun-requires c = search rules
-
-pub overflow_sub-result : goal.overflow_sub-result
-overflow_sub-result c = search rules
 
 pub returns-then-e-input : goal.returns-then-e-input
 returns-then-e-input c =
@@ -49,30 +30,6 @@ list_whole-moved-requires c =
     let f = rw c.last_of.ensures at c.find_end-e.ensures in
     let p = c.list_begun-end.ensures in
     (omega (arith, end_inside c.args.m c.args.input.now c.args.from c.args.out.now c.args.at c.find_end-e.result c.requires.0 c.requires.1 f), omega (arith, put_inside p (longest _) c.requires.1, put_length p))
-
-pub no_text-requires : goal.no_text-requires
-no_text-requires c = search rules
-
-pub slice_bounds-grown-count-2 : goal.slice_bounds-grown-count-2
-slice_bounds-grown-count-2 c = search rules
-
-pub slice_bounds-grown-start-2 : goal.slice_bounds-grown-start-2
-slice_bounds-grown-start-2 c = search rules
-
-pub slice_bounds-grown-end-2 : goal.slice_bounds-grown-end-2
-slice_bounds-grown-end-2 c = search rules
-
-pub grown-requires : goal.grown-requires
-grown-requires c = search rules
-
-pub overflow_sub-result-2 : goal.overflow_sub-result-2
-overflow_sub-result-2 c = search rules
-
-pub overflow_sub-result-3 : goal.overflow_sub-result-3
-overflow_sub-result-3 c = search rules
-
-pub shape_of-out : goal.shape_of-out
-shape_of-out c = search rules
 
 pub returns : goal.returns
 returns c =

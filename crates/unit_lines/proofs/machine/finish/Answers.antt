@@ -6,17 +6,10 @@ use lib.ListN.{length}
 use Rattle.unit_lines.specs.Machine.{longest_line}
 use Rattle.unit_lines.proofs.Kept.{text_inside, take_text}
 use Rattle.unit_lines.proofs.Finishing.{finish_none, finish_full, finish_line}
-use borrow.Author.Rules.{rules}
 use Rattle.unit_lines.proofs.machine.finish.Goals as goal
-
-pub length_of-len-requires : goal.length_of-len-requires
-length_of-len-requires c = search rules
 
 pub returns-then-len-eq0 : goal.returns-then-len-eq0
 returns-then-len-eq0 c = finish_none c.args.m _ _ (sym c.length_of-len.ensures ∙ c.if-len-eq0.true)
-
-pub has_room-requires : goal.has_room-requires
-has_room-requires c = search rules
 
 pub slice_bounds-bytes-end : goal.slice_bounds-bytes-end
 slice_bounds-bytes-end c = text_inside c.args.m _ c.length_of-len.ensures
@@ -28,12 +21,6 @@ pub list_text-end-requires : goal.list_text-end-requires
 list_text-end-requires c =
     let r : longest_line ≤ length c.args.out.now - c.args.at = leb-true _ _ (sym c.has_room.ensures ∙ c.if-has_room.true) in
     omega arith
-
-pub overflow_sub-written : goal.overflow_sub-written
-overflow_sub-written c = search rules
-
-pub shape_of-out-then-has_room : goal.shape_of-out-then-has_room
-shape_of-out-then-has_room c = search rules
 
 pub returns-then-has_room : goal.returns-then-has_room
 returns-then-has_room c =

@@ -1,18 +1,11 @@
 use native.Mathlib.Omega.{arith}
 use Rattle.unit_lines.specs.Records.{line_of}
 use Rattle.unit_lines.proofs.Longest.{longest}
-use borrow.Author.Rules.{rules}
 use Rattle.unit_lines.proofs.machine.list_text.Goals as goal
-
-pub read_730-requires : goal.read_730-requires
-read_730-requires c = search rules
 
 pub put_line-requires : goal.put_line-requires
 unfolding line_of
 put_line-requires c = rw c.read_730.ensures (omega (arith, longest c.args.text.now))
-
-pub shape_of-out : goal.shape_of-out
-shape_of-out c = search rules
 
 pub returns : goal.returns
 unfolding line_of

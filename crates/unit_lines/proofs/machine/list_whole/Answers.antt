@@ -14,12 +14,6 @@ use Rattle.unit_lines.proofs.machine.list_whole.Goals as goal
 pub loop-e-init : goal.loop-e-init
 loop-e-init c = (search rules, search rules, refl, record { taken = refl; held = refl; placed = refl; bytes = refl })
 
-pub has_room-requires : goal.has_room-requires
-has_room-requires c = search rules
-
-pub find_end-e-requires : goal.find_end-e-requires
-find_end-e-requires c = search rules
-
 pub shape_of-out-then-e-input : goal.shape_of-out-then-e-input
 shape_of-out-then-e-input c = c.loop-e.invariant.2
 

@@ -4,14 +4,7 @@ use native.Mathlib.Omega.{arith}
 use lib.ListN.{length, length-take}
 use Rattle.unit_lines.specs.Machine.{text_of, keep}
 use Rattle.unit_lines.proofs.Kept.{is_kept, keep_more, take_text}
-use borrow.Author.Rules.{rules}
 use Rattle.unit_lines.proofs.text.grown.Goals as goal
-
-pub length_of-len-requires : goal.length_of-len-requires
-length_of-len-requires c = search rules
-
-pub no_text-requires : goal.no_text-requires
-no_text-requires c = search rules
 
 pub slice_bounds-bytes-end : goal.slice_bounds-bytes-end
 slice_bounds-bytes-end c = omega (arith, c.length_of-len.ensures, length-take c.args.m.len c.args.m.bytes)

@@ -8,14 +8,8 @@ use Rattle.unit_lines.proofs.Kept.{last_none}
 use borrow.Author.Rules.{rules}
 use Rattle.unit_lines.proofs.text.last_of.Goals as goal
 
-pub length_of-len-requires : goal.length_of-len-requires
-length_of-len-requires c = search rules
-
 pub returns-then-len-eq0 : goal.returns-then-len-eq0
 returns-then-len-eq0 c = sym (last_none (text_of c.args.m) (sym c.length_of-len.ensures ∙ c.if-len-eq0.true))
-
-pub overflow_sub-result : goal.overflow_sub-result
-overflow_sub-result c = search rules
 
 pub bounds-bytes-len : goal.bounds-bytes-len
 bounds-bytes-len c =

@@ -3,9 +3,6 @@ use lib.ListN.{length, length-take}
 use borrow.Author.Rules.{rules}
 use Rattle.unit_lines.proofs.text.length_of.Goals as goal
 
-pub least-requires : goal.least-requires
-least-requires c = search rules
-
 pub returns : goal.returns
 returns c =
     let e : length c.args.m.bytes ≡ 66 = search rules in

@@ -1,18 +1,15 @@
-use Prim.Native.Nat.{◌≤◌, ◌<◌, ◌-◌, ◌+◌}
+use Prim.Native.Nat.{◌≤◌, ◌<◌, ◌+◌}
 use mathlib.Core.Path.{◌≡◌, refl}
 use native.Mathlib.Omega.{arith}
 use borrow.Author.Rules.{rules}
-use lib.ListN.{length, take, length-set}
-use lib.Seq.{sets, take_all}
+use lib.ListN.{length, length-set}
+use lib.Seq.{take_all}
 use Rattle.decimals.proofs.Puts.{sets_next}
 use Rattle.unit_lines.proofs.Kept.{text_most, text_length, more_all, more_cut}
 use Rattle.unit_lines.proofs.text.more_kept.Goals as goal
 
 pub overflow_sub-len : goal.overflow_sub-len
 overflow_sub-len c = omega (arith, text_most _ c.requires, text_length _ c.requires)
-
-pub least-n-requires : goal.least-n-requires
-least-n-requires c = search rules
 
 pub overflow_add-end : goal.overflow_add-end
 overflow_add-end c = omega (arith, c.least-n.ensures, text_most _ c.requires, text_length _ c.requires)
@@ -45,12 +42,6 @@ overflow_sub-bytes c = omega arith
 
 pub bounds-more-more : goal.bounds-more-more
 bounds-more-more c = omega arith
-
-pub overflow_sub-bytes-then-n-more : goal.overflow_sub-bytes-then-n-more
-overflow_sub-bytes-then-n-more c = search rules
-
-pub bounds-bytes : goal.bounds-bytes
-bounds-bytes c = search rules
 
 pub returns-then-n-more : goal.returns-then-n-more
 returns-then-n-more c =
