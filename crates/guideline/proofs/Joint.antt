@@ -6,7 +6,7 @@ use mathlib.Core.Path.{◌≡◌, refl, sym, ◌∙◌}
 use mathlib.Core.Bool.{Bool, true, false, not, ◌&&◌, and-false, false≢true}
 use native.Mathlib.Omega.{arith}
 use borrow.Author.Tests.{leb-true, ltb-true, ltb-false, lt-ltb, le-ltb, le-leb, lt-leb, ne_eqb}
-use lib.Dec.{eqb, leb, ltb}
+use lib.Dec.{leb, ltb}
 use Rattle.guideline.specs.Types.{T643, Bounds}
 use Rattle.guideline.specs.Values.{no_bound, bounds_in_range, fits}
 use Rattle.guideline.specs.Rows.{Row, age_bounds, weight_bounds, surface_bounds, sound_row}

@@ -1,9 +1,8 @@
 -- `is_text` meets its contract, first character first.
-use Prim.Native.Nat.{◌-◌}
 use mathlib.Core.Path.{sym, ap, ◌∙◌}
 use borrow.Author.Rules.{rules}
-use lib.ListN.{length, drop, drop_of_length-le}
-use Rattle.records.specs.Digits.{chars, same}
+use lib.ListN.{length, drop_of_length-le}
+use Rattle.records.specs.Digits.{same}
 use Rattle.records.proofs.Chars.{same_on, same_off, chars_start, chars_end}
 use Rattle.records.proofs.parts.is_text.Goals as goal
 

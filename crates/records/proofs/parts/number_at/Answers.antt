@@ -1,9 +1,7 @@
 -- `number_at` meets its contract: one pass that tests and adds up.
-use Prim.Native.Nat.{◌-◌}
 use mathlib.Core.Path.{sym, ap, ◌∙◌}
 use borrow.Author.Rules.{rules}
 use native.Mathlib.Omega.{arith}
-use Rattle.records.specs.Digits.{chars}
 use Rattle.records.proofs.Chars.{chars_start, chars_end}
 use Rattle.records.proofs.Numbers.{field_from, from_zero, from_end, from_digit, from_below, from_above, pow_more, pow_most}
 use Rattle.records.proofs.parts.number_at.Goals as goal
@@ -28,7 +26,6 @@ loop-read-preserved c = (
   search rules,
   rw c.wide.ensures (c.loop-read.invariant.1 ∙ from_digit _ _ _ _ _ c.loop-read-test.true c.requires.0 c.if-d-lt48.false c.if-d-gt57.false),
   omega (arith, pow_more c.loop-read.read),
-
 )
 
 pub returns : goal.returns

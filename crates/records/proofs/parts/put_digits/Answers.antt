@@ -2,8 +2,7 @@
 use mathlib.Core.Path.{refl, sym, ◌∙◌}
 use borrow.Author.Rules.{rules}
 use native.Mathlib.Omega.{arith}
-use lib.ListN.{length, length-set}
-use Rattle.records.specs.Digits.{digits}
+use lib.ListN.{length-set}
 use Rattle.records.proofs.Stores.{digits_turn, digits_end}
 use Rattle.records.proofs.parts.put_digits.Goals as goal
 
