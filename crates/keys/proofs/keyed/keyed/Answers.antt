@@ -1,6 +1,5 @@
 -- The loop keeps the tally of the rows that it has passed; the rows between have another key. Assumes nothing.
 use borrow.Author.Rules.{rules}
-use Prim.Native.Nat.{◌-◌}
 use native.Mathlib.Omega.{arith}
 use borrow.Author.Tests.{eq-eqb, ne_eqb}
 use Rattle.cells.proofs.Tallied.{tallying_all}

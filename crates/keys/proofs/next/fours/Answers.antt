@@ -1,6 +1,6 @@
 -- No row of the fours that the loop has passed has the key. Assumes nothing.
 use borrow.Author.Rules.{rules}
-use Prim.Native.Nat.{◌+◌, ◌-◌}
+use Prim.Native.Nat.{◌+◌}
 use native.Mathlib.Omega.{arith}
 use Rattle.keys.specs.Keys.{key_of}
 use Rattle.keys.proofs.Without.{without_none, without_four, without_both}

@@ -1,5 +1,5 @@
 -- No row that the loop has passed, from the end on, has the key. Assumes nothing.
-use Prim.Native.Nat.{◌-◌, ◌≤◌}
+use Prim.Native.Nat.{◌≤◌}
 use Rattle.keys.specs.Keys.{key_of, Without}
 use Rattle.keys.proofs.stretch.end.Given as goal
 
