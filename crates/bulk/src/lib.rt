@@ -1,14 +1,18 @@
-// What the programs that check in bulk share: cases from standard input, their lines to standard output. What a case says and which lines it gets is in the
-// libraries below. This one reads and writes by the kit's io, libc and os, whose contracts nothing proves; no other library stands on it.
+// What the programs that check in bulk share: cases from a reader, their lines to a writer; the programs lend standard input and output. What a case
+// says and which lines it gets is in the libraries below. Of the bytes that are read and written std's contracts say nothing.
 #![tactic(auto)]
 
-ghost use Rattle.std.specs.Prelude.{◌≤◌, length};
+ghost use Rattle.std.specs.Prelude.{◌≤◌, length, IfOk};
 ghost use Rattle.stream.specs.Cases.{longest_case, Whole};
 ghost use Rattle.case_lines.specs.Lines.{longest_text};
 ghost use Rattle.bulk.specs.Arrivals.{Held};
 
-use libc::{STDIN_FILENO, STDOUT_FILENO};
-use stream::cases::{Form, Next};
+use std::alloc::Global;
+use std::io::{self, Read, Write};
+use stream::cases::{Form, LONGEST, Next};
+
+// The lines of many cases have room in it, and so have those of any entry.
+const LARGE: usize = 65_536;
 
 // What came of reading a case. A whole one is so many bytes long.
 #[derive(Clone, Copy)]
@@ -16,76 +20,50 @@ enum Arrival {
     Case(usize),
     Broken,
     Finished,
-    Failed,
 }
 
-#[derive(Clone, Copy)]
-struct Piece {
-    count: usize,
-    failed: bool,
-}
-
-// The lines that are gathered end at `end` of the buffer. Where `goes_on` is false, nothing more is to be done.
-#[derive(Clone, Copy)]
-struct Gathered {
-    end: usize,
-    goes_on: bool,
-}
-
-fn put_out(lines: &[u8]) -> bool {
-    let is_written = io::write_all(STDOUT_FILENO, lines);
-    if !is_written {
-        os::fail(b"write");
-    }
-    is_written
+fn put_out<W: Write>(writer: &mut W, lines: &[u8]) -> io::Result<()> {
+    writer.write_all(lines)
 }
 
 // One read, which answers 0 bytes at the end of the stream.
-fn read_piece(buf: &mut [u8]) -> Piece
-    ensures { result.count ≤ length buf.new }
+fn read_piece<R: Read>(reader: &mut R, buf: &mut [u8]) -> io::Result<usize>
+    ensures { IfOk result (λ count. count ≤ length buf.new) }
 {
-    let got = libc::read(STDIN_FILENO, buf);
-    if got < 0 {
-        os::fail(b"read");
-        return Piece {
-            count: 0,
-            failed: true,
-        };
-    }
-    Piece {
-        count: io::count(got, buf),
-        failed: false,
-    }
+    reader.read(buf)
 }
 
-fn read_case(form: Form, case: &mut [u8]) -> Arrival
+fn read_case<R: Read>(reader: &mut R, form: Form, case: &mut [u8]) -> io::Result<Arrival>
     requires { longest_case ≤ length case.old }
-    ensures { Held form case.new result }
+    ensures { IfOk result (Held form case.new) }
 {
     let mut have: usize = 0;
     let mut ended = false;
     loop {
         let next = stream::cases::what_next(form, &case[..have], ended);
         match next {
-            Next::Answer => return Arrival::Case(have),
-            Next::Broken => return Arrival::Broken,
-            Next::Finished => return Arrival::Finished,
+            Next::Answer => return Ok(Arrival::Case(have)),
+            Next::Broken => return Ok(Arrival::Broken),
+            Next::Finished => return Ok(Arrival::Finished),
             Next::Read(until) => {
-                let piece = read_piece(&mut case[have..until]);
-                if piece.failed {
-                    return Arrival::Failed;
-                }
-                ended = piece.count == 0;
-                have += piece.count;
+                let count = read_piece(reader, &mut case[have..until])?;
+                ended = count == 0;
+                have += count;
             }
         }
     }
 }
 
-// Where the lines fill the buffer they are written, and its room is free again.
-fn answer_case(form: Form, case: &[u8], out: &mut [u8], at: usize) -> Gathered
+// Where the lines fill the buffer they are written, and its room is free again. The place behind those that are left in it.
+fn answer_case<W: Write>(
+    writer: &mut W,
+    form: Form,
+    case: &[u8],
+    out: &mut [u8],
+    at: usize,
+) -> io::Result<usize>
     requires { Whole form case.now × (at ≤ length out.old) × (longest_text form ≤ length out.old) }
-    ensures { result.end ≤ length out.new }
+    ensures { IfOk result (λ end. end ≤ length out.new) }
 {
     let test = case_lines::test_tables(case);
     let mut next: usize = 0;
@@ -95,57 +73,70 @@ fn answer_case(form: Form, case: &[u8], out: &mut [u8], at: usize) -> Gathered
         next = done.next;
         end = done.end;
         if !done.more {
-            return Gathered { end, goes_on: true };
+            return Ok(end);
         }
-        if !put_out(&out[..end]) {
-            return Gathered {
-                end: 0,
-                goes_on: false,
-            };
-        }
+        put_out(writer, &out[..end])?;
         end = 0;
     }
 }
 
-fn finish(arrival: Arrival, out: &[u8], at: usize)
+fn finish<W: Write>(writer: &mut W, arrival: Arrival, out: &[u8], at: usize) -> io::Result<()>
     requires { at ≤ length out.now }
 {
-    if !put_out(&out[..at]) {
-        return;
-    }
+    put_out(writer, &out[..at])?;
     if let Arrival::Broken = arrival {
-        put_out(b"broken\n");
+        put_out(writer, b"broken\n")?;
     }
+    Ok(())
 }
 
-// A proved loop has to end, and nothing says that the input does: it counts down from a number that no run uses up.
-fn answer_all(form: Form, case: &mut [u8], out: &mut [u8])
+// A proved loop has to end, and nothing says that the input does: it goes round as often as no run does. After a failed read the lines of the cases
+// before it are written, and nothing else.
+fn answer_all<R: Read, W: Write>(
+    reader: &mut R,
+    writer: &mut W,
+    form: Form,
+    case: &mut [u8],
+    out: &mut [u8],
+) -> io::Result<()>
     requires { (longest_case ≤ length case.old) × (longest_text form ≤ length out.old) }
 {
     let mut end: usize = 0;
-    let mut turns = u64::MAX;
-    while turns > 0 {
-        turns -= 1;
-        let arrival = read_case(form, case);
-        let Arrival::Case(n) = arrival else {
-            finish(arrival, out, end);
-            return;
+    for _ in 0..u64::MAX {
+        let arrival = match read_case(reader, form, case) {
+            Ok(arrival) => arrival,
+            Err(error) => {
+                put_out(writer, &out[..end])?;
+                return Err(error);
+            }
         };
-        let gathered = answer_case(form, &case[..n], out, end);
-        end = gathered.end;
-        if !gathered.goes_on {
-            return;
-        }
+        let Arrival::Case(n) = arrival else {
+            return finish(writer, arrival, out, end);
+        };
+        end = answer_case(writer, form, &case[..n], out, end)?;
     }
+    Ok(())
 }
 
-// The room for a case goes in as an array, whose type says its length: for a slice the proof would write out four million zeros.
-fn answer_stream(form: Form, case: &mut [u8; stream::cases::LONGEST]) {
-    let mut out = io::large_buffer();
-    answer_all(form, case, &mut out);
+fn answer_stream<R: Read, W: Write>(
+    reader: &mut R,
+    writer: &mut W,
+    form: Form,
+    case: &mut [u8],
+) -> io::Result<()>
+    requires { longest_case ≤ length case.old }
+{
+    let mut out = [0u8; LARGE];
+    answer_all(reader, writer, form, case, &mut out)
 }
 
-pub fn answer_input(form: Form) {
-    let mut case = [0u8; stream::cases::LONGEST];
-    answer_stream(form, &mut case);
+// The room for a case is on the heap: it is too much for a stack.
+pub fn answer_input<R: Read, W: Write>(
+    reader: &mut R,
+    writer: &mut W,
+    alloc: Global,
+    form: Form,
+) -> io::Result<()> {
+    let mut case = vec![in alloc; 0u8; LONGEST]?;
+    answer_stream(reader, writer, form, &mut case)
 }

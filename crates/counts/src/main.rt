@@ -1,8 +1,9 @@
 // Range checks in bulk (P2): cases from standard input, to standard output for each entry `131`, `132`, or a line for each count.
 #![tactic(auto)]
 
+use std::io;
 use stream::cases::Form;
 
-fn main() {
-    bulk::answer_input(Form::Range);
+fn main(rt: HostRuntime) -> io::Result<()> {
+    bulk::answer_input(&mut rt.stdin(), &mut rt.stdout(), rt.alloc(), Form::Range)
 }

@@ -2,23 +2,24 @@
 // unit_lines; here bytes are moved.
 #![tactic(auto)]
 
-ghost use Rattle.std.specs.Prelude.{◌≤◌, length};
+ghost use Rattle.std.specs.Prelude.{◌≡◌, ◌≤◌, length, IfOk, OnErr};
 ghost use Rattle.unit_lines.specs.Machine.{longest_line};
 ghost use Rattle.unit_lines.specs.Listing.{room_for};
 ghost use Rattle.unit_list.specs.Turns.{Turns, Heard, Ends};
 
-use libc::{STDIN_FILENO, STDOUT_FILENO};
+use std::io::{self, Read, Write};
 use unit_lines::ListMachine;
 
-// Bytes read at once: the lines of so many have room in a large buffer.
+// Bytes read at once, and those of the buffer in which their lines have room.
 const PIECE: usize = 8192;
 
-// There may be more input, or it has ended, or a read or a write failed and that was said.
+const LARGE: usize = 65_536;
+
+// There may be more input, or it has ended.
 #[derive(Clone, Copy)]
 enum Next {
     More,
     End,
-    Failed,
 }
 
 // The machine after a piece, how many characters of lines stand in front in the buffer, and how it goes on.
@@ -29,80 +30,70 @@ struct Turn {
     next: Next,
 }
 
-fn put_out(lines: &[u8]) -> bool {
-    let is_written = io::write_all(STDOUT_FILENO, lines);
-    if !is_written {
-        os::fail(b"write");
-    }
-    is_written
+fn put_out<W: Write>(writer: &mut W, lines: &[u8]) -> io::Result<()> {
+    writer.write_all(lines)
 }
 
-fn read_piece(m: ListMachine, input: &mut [u8], out: &mut [u8]) -> Turn
+fn read_piece<R: Read>(
+    reader: &mut R,
+    m: ListMachine,
+    input: &mut [u8],
+    out: &mut [u8],
+) -> io::Result<Turn>
     requires { room_for (length input.old) ≤ length out.old }
-    ensures { Turns m input.new out.old out.new result }
+    ensures ok { IfOk result (Turns m input.new out.old out.new) }
+    ensures err { OnErr result (out.new ≡ out.old) }
 {
-    let got = libc::read(STDIN_FILENO, input);
-    if got < 0 {
-        os::fail(b"read");
-        return Turn {
-            machine: m,
-            written: 0,
-            next: Next::Failed,
-        };
-    }
-    let n = io::count(got, input);
+    let n = reader.read(input)?;
     if n == 0 {
-        return Turn {
+        return Ok(Turn {
             machine: m,
             written: 0,
             next: Next::End,
-        };
+        });
     }
     let piece = unit_lines::list_piece(m, &input[..n], out);
     let machine = piece.machine;
-    Turn {
+    Ok(Turn {
         machine,
         written: piece.written,
         next: Next::More,
-    }
+    })
 }
 
-// A proved loop has to end, and nothing says that an input does: it counts down from a number that no run uses up.
-fn list_all(input: &mut [u8], out: &mut [u8]) -> Turn
+// A proved loop has to end, and nothing says that an input does: it goes round as often as no run does.
+fn list_all<R: Read, W: Write>(
+    reader: &mut R,
+    writer: &mut W,
+    input: &mut [u8],
+    out: &mut [u8],
+) -> io::Result<Turn>
     requires { room_for (length input.old) ≤ length out.old }
-    ensures { Heard result.machine }
+    ensures { IfOk result (λ last. Heard last.machine) }
 {
     let mut machine = unit_lines::new_machine();
-    let mut turns = u64::MAX;
-    while turns > 0 {
-        turns -= 1;
-        let turn = read_piece(machine, input, out);
+    for _ in 0..u64::MAX {
+        let turn = read_piece(reader, machine, input, out)?;
         machine = turn.machine;
         let written = turn.written;
         let next = turn.next;
-        if !put_out(&out[..written]) {
-            return Turn {
-                machine,
-                written: 0,
-                next: Next::Failed,
-            };
-        }
+        put_out(writer, &out[..written])?;
         let Next::More = next else {
-            return Turn {
+            return Ok(Turn {
                 machine,
                 written: 0,
                 next,
-            };
+            });
         };
     }
-    Turn {
+    Ok(Turn {
         machine,
         written: 0,
-        next: Next::Failed,
-    }
+        next: Next::More,
+    })
 }
 
-// The line of a last record; after a failure nothing that is unfinished is listed.
+// The line of a last record; where the input has not ended, nothing that is unfinished is listed.
 fn list_end(last: Turn, out: &mut [u8]) -> usize
     requires { longest_line ≤ length out.old }
     ensures { Ends last out.new result }
@@ -112,14 +103,14 @@ fn list_end(last: Turn, out: &mut [u8]) -> usize
     match next {
         Next::End => unit_lines::list_rest(machine, out),
         Next::More => 0,
-        Next::Failed => 0,
     }
 }
 
-fn main() {
-    let mut input = io::large_buffer();
-    let mut out = io::large_buffer();
-    let last = list_all(&mut input[..PIECE], &mut out);
+fn main(rt: HostRuntime) -> io::Result<()> {
+    let mut input = [0u8; PIECE];
+    let mut out = [0u8; LARGE];
+    let mut writer = rt.stdout();
+    let last = list_all(&mut rt.stdin(), &mut writer, &mut input, &mut out)?;
     let n = list_end(last, &mut out);
-    put_out(&out[..n]);
+    put_out(&mut writer, &out[..n])
 }

@@ -1,11 +1,6 @@
--- The buffers keep their lengths, the lines end inside theirs, and the turns that are left fall. Assumes nothing.
-use Prim.Native.Nat.{◌≤◌}
-use mathlib.Core.Path.{◌≡◌}
-use lib.ListN.{length}
+-- The lines end inside their buffer. Assumes nothing.
+use Rattle.std.proofs.Common.{◌≤◌, length}
 use Rattle.bulk.proofs.answer_all.Given as goal
 
-abbrev pub invariant-loop-turns : goal.invariant-loop-turns
-invariant-loop-turns l = (length l.case ≡ length l.initial.case) × (length l.out ≡ length l.initial.out) × (l.end ≤ length l.out)
-
-abbrev pub decreases-loop-turns : goal.decreases-loop-turns
-decreases-loop-turns l = l.turns
+abbrev pub invariant-loop : goal.invariant-loop
+invariant-loop g l = l.end ≤ length l.out

@@ -1,11 +1,6 @@
--- The measure is the number of turns that are left.
-use mathlib.Core.Path.{◌≡◌}
-use lib.ListN.{length}
+-- The machine has heard what was read so far, and nothing else. Assumes nothing.
 use Rattle.unit_list.specs.Turns.{Heard}
 use Rattle.unit_list.proofs.list_all.Given as goal
 
-abbrev pub invariant-loop-turns : goal.invariant-loop-turns
-invariant-loop-turns l = (length l.input ≡ length l.initial.input) × (length l.out ≡ length l.initial.out) × Heard l.machine
-
-abbrev pub decreases-loop-turns : goal.decreases-loop-turns
-decreases-loop-turns l = l.turns
+abbrev pub invariant-loop : goal.invariant-loop
+invariant-loop g l = Heard l.machine

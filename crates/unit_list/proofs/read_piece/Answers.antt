@@ -1,12 +1,6 @@
-use mathlib.Core.Path.{refl}
-use Rattle.unit_list.specs.Turns.{more, ended, failed}
+use Rattle.std.proofs.Common.{refl}
+use Rattle.unit_list.specs.Turns.{more}
 use Rattle.unit_list.proofs.read_piece.Goals as goal
 
-pub returns-then-got-lt0 : goal.returns-then-got-lt0
-returns-then-got-lt0 c = failed refl refl
-
-pub returns-then-n-eq0 : goal.returns-then-n-eq0
-returns-then-n-eq0 c = ended refl refl
-
-pub returns : goal.returns
-returns c = more c.count-n.result refl c.list_piece-piece.ensures
+pub returns-clause-ok : goal.returns-clause-ok
+returns-clause-ok g c = more c.in_ok-n.n refl c.list_piece-piece.ensures
