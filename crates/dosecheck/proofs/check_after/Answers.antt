@@ -1,5 +1,4 @@
 -- 125 ends the check, in each edition; an entry in range goes on to the next link, whose answer is given in its edition. Assumes nothing.
-use borrow.Author.Tests.{not-true, not-false}
 use mathlib.Core.Path.{refl, sym, ◌∙◌, ap}
 use Rattle.guideline.specs.declared.refusals.Ending.TheVariants.{EntryOutOfRange}
 use Rattle.guideline.specs.declared.refusals.Refusal.TheVariants.{Ends}

@@ -1,10 +1,9 @@
 -- Each turn stores one number more. Assumes nothing.
-use Prim.Native.Nat.{◌-◌}
 use mathlib.Core.Path.{refl}
 use native.Mathlib.Omega.{arith}
 use borrow.Author.Rules.{rules}
-use lib.ListN.{length, take, length-set}
-use lib.Seq.{sets, take_all}
+use lib.ListN.{length-set}
+use lib.Seq.{take_all}
 use Rattle.decimals.proofs.Puts.{sets_next}
 use Rattle.each_count.proofs.put_numbers.Goals as goal
 

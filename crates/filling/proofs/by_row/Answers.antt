@@ -1,5 +1,4 @@
 -- A row that differs is refused; another fills. Assumes nothing.
-use borrow.Author.Tests.{not-true, not-false}
 use mathlib.Core.Path.{sym, ◌∙◌}
 use Rattle.filling.specs.Fills.{by_row}
 use Rattle.filling.proofs.by_row.Goals as goal

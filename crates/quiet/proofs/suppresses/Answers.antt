@@ -1,6 +1,5 @@
 -- A condition that fails leaves the signal; else the rows per day are looked at. Assumes nothing.
 use mathlib.Core.Path.{sym, ◌∙◌, ap}
-use borrow.Author.Tests.{not-true, not-false}
 use Rattle.guideline.specs.declared.rows.Row643.{Row643}
 use Rattle.guideline.specs.declared.rows.TableName.TheVariants.{T649}
 use Rattle.guideline.specs.Ask.{run}

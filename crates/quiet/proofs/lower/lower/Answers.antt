@@ -1,16 +1,10 @@
 -- No row that the loop has passed bars, and it remembers whether one allowed more. Assumes nothing.
 use borrow.Author.Rules.{rules}
-use Prim.Native.Nat.{ℕ, ◌-◌}
 use mathlib.Core.Path.{sym, ◌∙◌, ap}
-use mathlib.Core.Bool.{Bool, not, ◌&&◌}
-use mathlib.Core.List.{List}
+use mathlib.Core.Bool.{◌&&◌}
 use native.Mathlib.Omega.{arith}
-use Rattle.guideline.specs.declared.context.Ratio.{Ratio}
-use Rattle.guideline.specs.declared.entries.Prescription.{Prescription}
 use Rattle.guideline.specs.declared.rows.Row643.{Row643}
-use Rattle.guideline.specs.declared.rows.TableName.TheVariants.{T649}
-use Rattle.guideline.specs.Quiet.{minimum_empty, allows_more, lower}
-use Rattle.cells.specs.Lents.{rows}
+use Rattle.guideline.specs.Quiet.{lower}
 use Rattle.cells.proofs.Views.{fits_less}
 use Rattle.sieve.specs.Settled.{settled643}
 use Rattle.sieve.proofs.Passed.{pass_first, pass_miss, passed_all}

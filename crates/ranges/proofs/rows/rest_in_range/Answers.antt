@@ -1,9 +1,7 @@
 -- The loop has found no row out of range among those that it has passed. Assumes nothing.
 use borrow.Author.Rules.{rules}
-use Prim.Native.Nat.{◌-◌}
 use mathlib.Core.Path.{sym, ◌∙◌}
 use native.Mathlib.Omega.{arith}
-use borrow.Author.Tests.{not-true, not-false}
 use Rattle.ranges.proofs.RowByRow.{found_unsound, all_sound, one_tested}
 use Rattle.ranges.proofs.rows.rest_in_range.Goals as goal
 

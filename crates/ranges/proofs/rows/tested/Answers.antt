@@ -1,11 +1,9 @@
 -- The loop has found no row out of range among those that it has passed, and their keys rise. Assumes nothing.
 use borrow.Author.Rules.{rules}
-use Prim.Native.Nat.{ℕ, ◌+◌, ◌-◌}
+use Prim.Native.Nat.{ℕ, ◌+◌}
 use mathlib.Core.Path.{◌≡◌, refl, sym, ◌∙◌, subst}
-use mathlib.Core.Bool.{true, false}
+use mathlib.Core.Bool.{false}
 use native.Mathlib.Omega.{arith}
-use borrow.Author.Tests.{not-true, not-false}
-use Rattle.cells.specs.Lents.{key_at}
 use Rattle.cells.proofs.Lents.{key_inside}
 use Rattle.keys.specs.Keys.{key_of}
 use Rattle.keys.specs.Rising.{rises}

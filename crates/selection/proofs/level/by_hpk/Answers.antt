@@ -1,5 +1,4 @@
 -- Each way out is the one that the plan takes. Assumes nothing.
-use borrow.Author.Tests.{not-true, not-false}
 use mathlib.Core.Path.{sym, ◌∙◌, ap}
 use Rattle.guideline.specs.declared.rows.TableName.TheVariants.{T641}
 use Rattle.guideline.specs.Ask.{◌>>=◌}

@@ -1,7 +1,6 @@
 -- The lists that are passed are short; one that is not ends the search. Assumes nothing.
-use Prim.Native.Nat.{◌+◌, ◌-◌}
+use Prim.Native.Nat.{◌+◌}
 use borrow.Author.Rules.{rules}
-use mathlib.Core.Bool.{true}
 use mathlib.Core.Path.{◌≡◌, refl, sym}
 use native.Mathlib.Omega.{arith}
 use Rattle.stream.specs.Cases.{entry_count, wanted_of, lists_lendable, lendable}

@@ -2,7 +2,7 @@
 use Prim.Native.Nat.{◌-◌, ◌≤◌}
 use mathlib.Core.Bool.{true}
 use mathlib.Core.Path.{◌≡◌}
-use Rattle.stream.specs.Cases.{lists_lendable, lendable}
+use Rattle.stream.specs.Cases.{lists_lendable}
 use Rattle.stream.proofs.cases.lists_lendable.Given as goal
 
 abbrev pub invariant-loop-i : goal.invariant-loop-i

@@ -1,10 +1,9 @@
 -- What is left to write is the line of the numbers that are left. Assumes nothing.
-use Prim.Native.Nat.{◌-◌}
 use mathlib.Core.List.{[]}
 use mathlib.Core.Path.{◌≡◌, refl, ◌∙◌}
 use native.Mathlib.Omega.{arith}
 use borrow.Author.Rules.{rules}
-use lib.ListN.{length, drop, get_or, drop_of_length-le}
+use lib.ListN.{drop, get_or, drop_of_length-le}
 use Rattle.decimals.proofs.Decimal.{field_32}
 use Rattle.stream.specs.Lines.{line}
 use Rattle.stream.proofs.InLine.{put_number}

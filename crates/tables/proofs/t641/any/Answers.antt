@@ -1,6 +1,5 @@
 -- The loop goes through the rows of the key and has found none that passes. Assumes nothing.
 use borrow.Author.Rules.{rules}
-use Prim.Native.Nat.{◌-◌}
 use mathlib.Core.Path.{sym}
 use native.Mathlib.Omega.{arith}
 use Rattle.guideline.specs.declared.rows.TableName.TheVariants.{T641}

@@ -1,6 +1,5 @@
 -- The loop goes through the rows of the key and tallies those that pass. Assumes nothing.
 use borrow.Author.Rules.{rules}
-use Prim.Native.Nat.{◌-◌}
 use native.Mathlib.Omega.{arith}
 use Rattle.guideline.specs.declared.rows.TableName.TheVariants.{T641}
 use Rattle.cells.proofs.Views.{fits_less}

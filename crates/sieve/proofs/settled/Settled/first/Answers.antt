@@ -1,6 +1,5 @@
 -- No row that the loop has passed passes; the rows between are of another category. Assumes nothing.
 use borrow.Author.Rules.{rules}
-use Prim.Native.Nat.{◌-◌}
 use mathlib.Core.Path.{sym, ◌∙◌, ap}
 use mathlib.Core.Bool.{◌&&◌}
 use native.Mathlib.Omega.{arith}

@@ -1,11 +1,9 @@
 -- No row that a search has passed has the frequency: the exact unit first, its twin second. Assumes nothing.
 use borrow.Author.Rules.{rules}
-use Prim.Native.Nat.{◌-◌}
 use mathlib.Core.Path.{sym, ◌∙◌, ap}
-use mathlib.Core.Bool.{false, ◌&&◌}
+use mathlib.Core.Bool.{◌&&◌}
 use native.Mathlib.Omega.{arith}
 use Rattle.guideline.specs.declared.rows.Row643.{Row643}
-use Rattle.guideline.specs.Table.{some}
 use Rattle.cells.proofs.Views.{fits_less}
 use Rattle.filter.specs.declared.Filter.TheVariants.{Exact, Twin}
 use Rattle.filter.specs.Filters.{filter643}

@@ -1,6 +1,5 @@
 -- The loop keeps the tally of the rows that it has passed; the rows between are of another category. Assumes nothing.
 use borrow.Author.Rules.{rules}
-use Prim.Native.Nat.{◌-◌}
 use mathlib.Core.Path.{sym, ◌∙◌, ap}
 use native.Mathlib.Omega.{arith}
 use Rattle.guideline.specs.declared.rows.TableName.TheVariants.{T643}
