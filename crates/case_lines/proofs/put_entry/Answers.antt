@@ -1,6 +1,6 @@
 -- Each form has its lines. Assumes nothing.
 use Prim.Native.Nat.{◌≤◌}
-use Rattle.stream.specs.Cases.{entry_count, most_places, wanted_of, lendable}
+use Rattle.stream.specs.Cases.{entry_count, most_places, lendable}
 use Rattle.stream.proofs.Lists.{list_lendable}
 use Rattle.case_lines.proofs.Tables.{single_lines, range_lines_of}
 use Rattle.case_lines.proofs.put_entry.Goals as goal

@@ -1,5 +1,6 @@
 -- `write_730` meets its contract: 205, then 206, then the two halves, which together are the record at its place.
-use mathlib.Core.Path.{sym, ◌∙◌}
+use mathlib.Core.Path.{◌≡◌, sym, ◌∙◌}
+use mathlib.Core.Bool.{true}
 use borrow.Author.Tests.{leb-true}
 use native.Mathlib.Omega.{arith}
 use Rattle.records_730.specs.File730.{file_730}
@@ -12,7 +13,9 @@ returns-then-not-fits c = too_wide file_730 _ _ _ (sym c.fits_730-fits.ensures �
 
 pub returns-then-not-room : goal.returns-then-not-room
 unfolding file_730
-returns-then-not-room c = no_room file_730 _ _ _ (sym c.fits_730-fits.ensures ∙ c.if-not-fits.false) (sym c.has_room-room.ensures ∙ c.if-not-room.true)
+returns-then-not-room c =
+    let fits : c.fits_730-fits.result ≡ true = cc in
+    no_room file_730 _ _ _ (sym c.fits_730-fits.ensures ∙ fits) (sym c.has_room-room.ensures ∙ c.if-not-room.true)
 
 pub returns : goal.returns
 unfolding file_730
