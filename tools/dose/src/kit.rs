@@ -1,5 +1,5 @@
-//! Starting a program for x86-64 where the machine itself does not: as `rt` does, under the loader of the
-//! Rattle kit and, on another processor, its emulator.
+//! Starting a program for x86-64 where the machine itself does not: under the loader of the Rattle kit and, on another
+//! processor, an emulator, the kit's if it has one.
 
 use std::env::consts::ARCH;
 use std::path::{Path, PathBuf};
@@ -9,7 +9,7 @@ const EMULATOR: &str = "qemu-x86_64";
 const LOADER: &str = "ld-linux-x86-64.so.2";
 
 pub fn command(program: &Path) -> Result<Command, String> {
-    let tools = home().map(|home| home.join("on").join(ARCH).join("toolchain"));
+    let tools = home().map(|home| home.join("toolchain"));
     let tools = tools.filter(|tools| tools.join("lib").join(LOADER).is_file());
     let own = tools.as_ref().map(|tools| tools.join("bin").join(EMULATOR)).filter(|path| path.is_file());
     let emulator = own.or_else(|| on_path(EMULATOR));

@@ -23,14 +23,14 @@ pub const fn record_calls(option: &'static str) -> Proved {
     Proved { name: "record_calls", option }
 }
 
-/// The program that was given, or the one that `rt check` puts into the repository around this front.
+/// The program that was given, or the one that tools/build-programs puts into the repository around this front.
 pub fn find(proved: &Proved, given: Option<&Path>) -> Result<PathBuf, String> {
     if let Some(path) = given {
         return path
             .canonicalize()
             .map_err(|e| format!("the program {} cannot be found: {e}", path.display()));
     }
-    let below_root = Path::new("target").join("bin").join(proved.name);
+    let below_root = Path::new("crates").join(proved.name).join("out").join(proved.name);
     let front = std::env::current_exe().ok();
     let here = std::env::current_dir().ok();
     for start in [front, here].into_iter().flatten() {
@@ -40,7 +40,7 @@ pub fn find(proved: &Proved, given: Option<&Path>) -> Result<PathBuf, String> {
         }
     }
     Err(format!(
-        "the proved program {} is not there: run `rt check` in the repository, or name it with {} PATH",
+        "the proved program {} is not there: run tools/build-programs in the repository, or name it with {} PATH",
         below_root.display(),
         proved.option
     ))

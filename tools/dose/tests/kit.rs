@@ -1,9 +1,8 @@
-//! On another processor a program for x86-64 runs as `rt` runs it: under the kit's emulator and loader.
+//! On another processor a program for x86-64 runs under an emulator and the kit's loader.
 #![cfg(not(target_arch = "x86_64"))]
 
 mod common;
 use common::{ran, sample, Room, ENTRIES, FAKE};
-use std::env::consts::ARCH;
 use std::fs;
 use std::process::Command;
 
@@ -21,7 +20,7 @@ fn check(room: &Room) -> Command {
 #[test]
 fn the_kits_emulator_and_loader() {
     let room = Room::new("the_kits_emulator");
-    let tools = room.folder.join("kit/on").join(ARCH).join("toolchain");
+    let tools = room.folder.join("kit/toolchain");
     fs::create_dir_all(tools.join("bin")).unwrap();
     fs::create_dir_all(tools.join("lib")).unwrap();
     fs::write(tools.join("lib/ld-linux-x86-64.so.2"), "").unwrap();

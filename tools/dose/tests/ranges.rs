@@ -146,18 +146,24 @@ fn check_from(room: &Room, repository: &Path) -> Command {
 fn the_programs_of_the_repository() {
     let room = room("the_programs_of_the_repository");
     let repository = room.folder.join("repository");
-    let bin = repository.join("target/bin");
-    fs::create_dir_all(&bin).unwrap();
+    let out = |name: &str| {
+        let folder = repository.join("crates").join(name).join("out");
+        fs::create_dir_all(&folder).unwrap();
+        folder
+    };
+    fs::create_dir_all(&repository).unwrap();
     fs::write(repository.join("crates.txt"), "").unwrap();
     fs::hard_link(env!("CARGO_BIN_EXE_dose"), repository.join("dose")).unwrap();
-    symlink(FAKE, bin.join("answers")).unwrap();
+    symlink(FAKE, out("answers").join("answers")).unwrap();
     let without = ran(&mut check_from(&room, &repository));
     assert_eq!((without.status, without.said.as_str()), (1, ""));
-    for words in ["the proved program target/bin/counts is not there", "name it with --counts-program PATH"] {
+    for words in
+        ["the proved program crates/counts/out/counts is not there", "name it with --counts-program PATH"]
+    {
         assert!(without.complained.contains(words), "{}", without.complained);
     }
-    symlink(FAKE, bin.join("fake.sh")).unwrap();
-    symlink(FAKE_COUNTS, bin.join("counts")).unwrap();
+    symlink(FAKE, out("counts").join("fake.sh")).unwrap();
+    symlink(FAKE_COUNTS, out("counts").join("counts")).unwrap();
     let with = ran(&mut check_from(&room, &repository));
     assert_eq!((with.status, with.said), (0, ranges("expected.txt")), "{}", with.complained);
 }
