@@ -7,7 +7,6 @@ ghost use Rattle.stream.specs.Cases.{longest_case, Whole};
 ghost use Rattle.case_lines.specs.Lines.{longest_text};
 ghost use Rattle.bulk.specs.Arrivals.{Held};
 
-use std::alloc::Global;
 use std::io::{self, Read, Write};
 use stream::cases::{Form, LONGEST, Next};
 
@@ -118,25 +117,22 @@ fn answer_all<R: Read, W: Write>(
     Ok(())
 }
 
+// The room for a case goes in as an array, whose type says its length: for a slice the proof would write out four million zeros.
 fn answer_stream<R: Read, W: Write>(
     reader: &mut R,
     writer: &mut W,
     form: Form,
-    case: &mut [u8],
-) -> io::Result<()>
-    requires { longest_case ≤ length case.old }
-{
+    case: &mut [u8; LONGEST],
+) -> io::Result<()> {
     let mut out = [0u8; LARGE];
     answer_all(reader, writer, form, case, &mut out)
 }
 
-// The room for a case is on the heap: it is too much for a stack.
 pub fn answer_input<R: Read, W: Write>(
     reader: &mut R,
     writer: &mut W,
-    alloc: Global,
     form: Form,
 ) -> io::Result<()> {
-    let mut case = vec![in alloc; 0u8; LONGEST]?;
+    let mut case = [0u8; LONGEST];
     answer_stream(reader, writer, form, &mut case)
 }

@@ -5,5 +5,5 @@ use std::io;
 use stream::cases::Form;
 
 fn main(rt: HostRuntime) -> io::Result<()> {
-    bulk::answer_input(&mut rt.stdin(), &mut rt.stdout(), rt.alloc(), Form::Range)
+    bulk::answer_input(&mut rt.stdin(), &mut rt.stdout(), Form::Range)
 }
