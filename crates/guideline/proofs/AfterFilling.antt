@@ -23,7 +23,7 @@ given_not_blank {n} {v} g b = let z : ◌≡◌ {A = ℕ} 0 1 = cc in omega arit
 
 -- the entry with which step 2 goes on, if it does, is as it was, or the one row of its HPK, with which it agrees, has filled it
 pub of_step_2 : (t : Tables) (e : Entry) (P : Entry → Type 0) → P e → ((r : Row T070) → OneRow t e r → agrees r e ≡ true → P (filled_by r e)) → P (chosen_or e (up_to_step_2 t e))
-of_step_2 t e P itself by_Row = rw (comes_to t e) (of_step_1 (step_1 t) refl)
+of_step_2 t e P itself by_row = rw (comes_to t e) (of_step_1 (step_1 t) refl)
   where
     of_one : (r : Row T070) (s : Bool) → (s ≡ true → P (filled_by r e)) → P (chosen_or e (one_filled s (filled_by r e)))
     of_one r true h = h refl
@@ -31,7 +31,7 @@ of_step_2 t e P itself by_Row = rw (comes_to t e) (of_step_1 (step_1 t) refl)
 
     of_rows : (b : Bool) → step_1 t ≡ Chosen b → (x : Hits (Row T070)) → hpk_rows t e ≡ x → P (chosen_or e (filled x e))
     of_rows b p None q = itself
-    of_rows b p (One r) q = of_one r (agrees r e) (by_Row r (record { test = b; passed = p; row = q }))
+    of_rows b p (One r) q = of_one r (agrees r e) (by_row r (record { test = b; passed = p; row = q }))
     of_rows b p (Many n) q = itself
 
     of_step_1 : (o : Outcome Reached Bool) → step_1 t ≡ o → P (chosen_or e (after o (λ _. filled (hpk_rows t e) e)))
@@ -41,10 +41,10 @@ of_step_2 t e P itself by_Row = rw (comes_to t e) (of_step_1 (step_1 t) refl)
 -- so is the entry after filling
 pub of_after_filling : (t : Tables) (e : Entry) (P : Entry → Type 0) → P e → ((r : Row T070) → OneRow t e r → agrees r e ≡ true → P (filled_by r e)) → P (after_filling t e)
 unfolding after_filling
-of_after_filling t e P itself by_Row = go (in_range e)
+of_after_filling t e P itself by_row = go (in_range e)
   where
     go : (s : Bool) → P (cond s (chosen_or e (up_to_step_2 t e)) e)
-    go true = of_step_2 t e P itself by_Row
+    go true = of_step_2 t e P itself by_row
     go false = itself
 
 -- where it agrees with that row, the row has filled it

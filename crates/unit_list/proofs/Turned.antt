@@ -1,4 +1,4 @@
--- What a turn leaves: a machine that has heard the piece, and at the end of the input the list complete. Assumes nothing.
+-- What a turn leaves: its lines inside the buffer, a machine that has heard the piece, and at the end of the input the list complete. Assumes nothing.
 use Prim.Native.Nat.{ℕ, ◌≤◌}
 use mathlib.Core.List.{List, [], ◌++◌}
 use mathlib.Core.Path.{◌≡◌, refl, sym, ap, subst, ◌∙◌}
@@ -11,8 +11,12 @@ use Rattle.unit_lines.specs.Listing.{Rests, start, piece}
 use Rattle.unit_lines.specs.declared.text.ListMachine.{ListMachine}
 use Rattle.unit_lines.proofs.Listed.{listed_rest}
 use Rattle.unit_list.specs.declared.Turn.{Turn}
-use Rattle.unit_list.specs.declared.Next.TheVariants.{End}
+use Rattle.unit_list.specs.declared.Next.TheVariants.{More, End}
 use Rattle.unit_list.specs.Turns.{Turns, more, ended, Heard, Ends}
+
+pub turn_inside : {m : ListMachine} {input old new : List ℕ} {r : Turn} → Turns m input old new r → r.written ≤ length old
+turn_inside (more n e p) = p.room
+turn_inside (ended e f) = omega (arith, ap (λ (x : Turn). x.written) e)
 
 pub heard_nothing : {m : ListMachine} → m ≡ keep [] → Heard m
 heard_nothing {m} e = record { input = []; output = []; listed = start m e }
@@ -26,3 +30,6 @@ pub ends_complete : {last : Turn} {old new : List ℕ} {n : ℕ} → last.next �
 ends_complete {last} {old} {new} {n} e p =
     let l : length new ≡ length old = ap length p.bytes ∙ length-sets old 0 (lines_of (unless_empty (text_of last.machine))) in
     record { inside = omega (arith, p.room); complete = λ f input output h. listed_rest h old new n p; nothing = λ f. absurd (f e) }
+
+pub ends_more : {last : Turn} {new : List ℕ} → last.next ≡ More → Ends last new 0
+ends_more {last} {new} e = record { inside = omega arith; complete = λ f. absurd (let g : More ≡ End = sym e ∙ f in let z : ◌≡◌ {A = ℕ} 0 1 = cc in let y : ⊥ = omega arith in y); nothing = λ f. refl }
