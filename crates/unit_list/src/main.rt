@@ -15,11 +15,12 @@ const PIECE: usize = 8192;
 
 const LARGE: usize = 65_536;
 
-// There may be more input, or it has ended.
+// There may be more input, or it has ended, or no end of it was found in as many turns as a loop may have.
 #[derive(Clone, Copy)]
 enum Next {
     More,
     End,
+    Failed,
 }
 
 // The machine after a piece, how many characters of lines stand in front in the buffer, and how it goes on.
@@ -69,7 +70,8 @@ fn list_all<R: Read, W: Write>(
     out: &mut [u8],
 ) -> io::Result<Turn>
     requires { room_for (length input.old) ≤ length out.old }
-    ensures { IfOk result (λ last. Heard last.machine) }
+    ensures ok { IfOk result (λ last. Heard last.machine) }
+    ensures err { OnErr result ((length input.new ≡ length input.old) × (length out.new ≡ length out.old)) }
 {
     let mut machine = unit_lines::new_machine();
     for _ in 0..u64::MAX {
@@ -89,11 +91,11 @@ fn list_all<R: Read, W: Write>(
     Ok(Turn {
         machine,
         written: 0,
-        next: Next::More,
+        next: Next::Failed,
     })
 }
 
-// The line of a last record; where the input has not ended, nothing that is unfinished is listed.
+// The line of a last record; after a failure nothing that is unfinished is listed.
 fn list_end(last: Turn, out: &mut [u8]) -> usize
     requires { longest_line ≤ length out.old }
     ensures { Ends last out.new result }
@@ -103,6 +105,7 @@ fn list_end(last: Turn, out: &mut [u8]) -> usize
     match next {
         Next::End => unit_lines::list_rest(machine, out),
         Next::More => 0,
+        Next::Failed => 0,
     }
 }
 
