@@ -1,8 +1,9 @@
 // What the programs that check in bulk share: cases from a reader, their lines to a writer; the programs lend standard input and output. What a case
-// says and which lines it gets is in the libraries below. Of the bytes that are read and written std's contracts say nothing.
+// says and which lines it gets is in the libraries below. Of the bytes of standard input and output no contract says anything. An Err is the reader's or the
+// writer's own, the first that fails; none is made here.
 #![tactic(auto)]
 
-ghost use Rattle.std.specs.Prelude.{◌≤◌, length, IfOk};
+ghost use Rattle.std.specs.Prelude.{◌≡◌, ◌≤◌, length, IfOk, OnErr};
 ghost use Rattle.stream.specs.Cases.{longest_case, Whole};
 ghost use Rattle.case_lines.specs.Lines.{longest_text};
 ghost use Rattle.bulk.specs.Arrivals.{Held};
@@ -27,14 +28,16 @@ fn put_out<W: Write>(writer: &mut W, lines: &[u8]) -> io::Result<()> {
 
 // One read, which answers 0 bytes at the end of the stream.
 fn read_piece<R: Read>(reader: &mut R, buf: &mut [u8]) -> io::Result<usize>
-    ensures { IfOk result (λ count. count ≤ length buf.new) }
+    ensures ok { IfOk result (λ count. count ≤ length buf.new) }
+    ensures err { OnErr result (length buf.new ≡ length buf.old) }
 {
     reader.read(buf)
 }
 
 fn read_case<R: Read>(reader: &mut R, form: Form, case: &mut [u8]) -> io::Result<Arrival>
     requires { longest_case ≤ length case.old }
-    ensures { IfOk result (Held form case.new) }
+    ensures ok { IfOk result (Held form case.new) }
+    ensures err { OnErr result (length case.new ≡ length case.old) }
 {
     let mut have: usize = 0;
     let mut ended = false;
@@ -62,7 +65,8 @@ fn answer_case<W: Write>(
     at: usize,
 ) -> io::Result<usize>
     requires { Whole form case.now × (at ≤ length out.old) × (longest_text form ≤ length out.old) }
-    ensures { IfOk result (λ end. end ≤ length out.new) }
+    ensures ok { IfOk result (λ end. end ≤ length out.new) }
+    ensures err { OnErr result (length out.new ≡ length out.old) }
 {
     let test = case_lines::test_tables(case);
     let mut next: usize = 0;
@@ -99,6 +103,7 @@ fn answer_all<R: Read, W: Write>(
     out: &mut [u8],
 ) -> io::Result<()>
     requires { (longest_case ≤ length case.old) × (longest_text form ≤ length out.old) }
+    ensures { OnErr result ((length case.new ≡ length case.old) × (length out.new ≡ length out.old)) }
 {
     let mut end: usize = 0;
     for _ in 0..u64::MAX {

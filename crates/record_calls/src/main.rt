@@ -1,4 +1,5 @@
-// The calls of the readers and writers of records in bulk: calls from standard input, the line of each answer to standard output.
+// The calls of the readers and writers of records in bulk: calls from standard input, the line of each answer to standard output. An Err is the reader's or the
+// writer's own, the first that fails; none is made here.
 #![tactic(auto)]
 
 ghost use Rattle.std.specs.Prelude.{◌≡◌, ◌+◌, ◌≤◌, ◌<◌, length, IfOk, OnErr};
@@ -108,7 +109,8 @@ fn answer_all<R: Read, W: Write>(
     out: &mut [u8],
 ) -> io::Result<usize>
     requires { (longest_call ≤ length input.old) × (longest_line ≤ length out.old) }
-    ensures { IfOk result (λ n. n ≤ length out.new) }
+    ensures ok { IfOk result (λ n. n ≤ length out.new) }
+    ensures err { OnErr result ((length input.new ≡ length input.old) × (length out.new ≡ length out.old)) }
 {
     let mut from: usize = 0;
     let mut have: usize = 0;

@@ -1,5 +1,5 @@
 // The unit list of document 01: records from standard input, lines to standard output, both in large pieces. All that is decided is decided by
-// unit_lines; here bytes are moved.
+// unit_lines; here bytes are moved. An Err is the reader's or the writer's own, the first that fails; none is made here.
 #![tactic(auto)]
 
 ghost use Rattle.std.specs.Prelude.{◌≡◌, ◌≤◌, length, IfOk, OnErr};

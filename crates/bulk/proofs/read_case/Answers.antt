@@ -29,8 +29,8 @@ piece_inside case buf have until count a b l e h =
     let k : length (take (until - have) (drop have case)) ≡ until - have = length-take-le (until - have) (drop have case) (rw (length-drop have case) (omega arith)) in
     omega arith
 
-pub returns-in-Answer : goal.returns-in-Answer
-returns-in-Answer g c = (omega arith, answer_whole _ _ _ (sym c.in-Answer.ensures))
+pub returns-in-Answer-clause-ok : goal.returns-in-Answer-clause-ok
+returns-in-Answer-clause-ok g c = (omega arith, answer_whole _ _ _ (sym c.in-Answer.ensures))
 
 pub slice_bounds-read_piece-count : goal.slice_bounds-read_piece-count
 slice_bounds-read_piece-count g c =
@@ -50,11 +50,11 @@ slice_bounds-read_piece-end g c =
 pub loop-until-smaller : goal.loop-until-smaller
 loop-until-smaller g c =
     let k = known c.args.form c.loop-until.case c.loop-until.have c.in-Read.until c.loop-until.ended (omega arith) (sym c.in-Read.ensures) in
-    let i = piece_inside c.loop-until.case c.read_piece.new.buf c.loop-until.have c.in-Read.until c.in_ok-count-in-Read.count k.1 k.2 (omega arith) c.read_piece.auto.buf c.in_ok-count-in-Read.ensures in
+    let i = piece_inside c.loop-until.case c.read_piece.new.buf c.loop-until.have c.in-Read.until c.in_ok-count-in-Read.count k.1 k.2 (omega arith) c.read_piece.auto.buf c.in_ok-count-in-Read.ensures.ok in
     less longest_case c.loop-until.have c.in_ok-count-in-Read.count c.loop-until.ended k.0 i
 
 pub loop-until-preserved : goal.loop-until-preserved
 loop-until-preserved g c =
     let k = known c.args.form c.loop-until.case c.loop-until.have c.in-Read.until c.loop-until.ended (omega arith) (sym c.in-Read.ensures) in
-    let i = piece_inside c.loop-until.case c.read_piece.new.buf c.loop-until.have c.in-Read.until c.in_ok-count-in-Read.count k.1 k.2 (omega arith) c.read_piece.auto.buf c.in_ok-count-in-Read.ensures in
+    let i = piece_inside c.loop-until.case c.read_piece.new.buf c.loop-until.have c.in-Read.until c.in_ok-count-in-Read.count k.1 k.2 (omega arith) c.read_piece.auto.buf c.in_ok-count-in-Read.ensures.ok in
     (i, same_len_mid c.loop-until.have (c.in-Read.until - c.loop-until.have) c.loop-until.case c.read_piece.new.buf c.read_piece.auto.buf ∙ c.loop-until.invariant.1)
