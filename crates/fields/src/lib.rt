@@ -4,7 +4,7 @@
 ghost use Rattle.std.specs.Prelude.{◌≡◌};
 ghost use Rattle.guideline.specs.Values.{codes, codes_from_1, units, counts, counts_of_070, doses, limits, ages, weights, surfaces, sexes, sexes_of_640, risks, levels, care_groups, icpctos, positions, editions};
 
-use guideline::entries::{Prescription, Switch};
+use guideline::entries::Prescription;
 use guideline::range::Range;
 use guideline::rows::{Row640, Row641};
 use guideline::setting::Setting;
@@ -161,8 +161,8 @@ pub fn positions() -> Range
     ensures { result ≡ positions }
 {
     Range {
-        low: Switch::OFF,
-        high: Switch::ON,
+        low: Option<u32>::OFF,
+        high: Option<u32>::ON,
     }
 }
 

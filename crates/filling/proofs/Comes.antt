@@ -3,8 +3,8 @@ use Prim.Native.Nat.{ℕ}
 use mathlib.Core.Bool.{Bool, true, false, cond}
 use mathlib.Core.Path.{◌≡◌, refl, ◌∙◌, ap}
 use Rattle.guideline.specs.declared.entries.Entry.{Entry}
-use Rattle.guideline.specs.declared.entries.Value.{Value}
-use Rattle.guideline.specs.declared.entries.Value.TheVariants.{Blank, Given}
+use Rattle.guideline.specs.Types.{Value}
+use Rattle.guideline.specs.Types.{Blank, Given}
 use Rattle.guideline.specs.declared.refusals.Ending.TheVariants.{HpkRowsSeveral, HpkRowDiffers}
 use Rattle.guideline.specs.declared.refusals.Refusal.TheVariants.{Ends}
 use Rattle.guideline.specs.declared.rows.Row070.{Row070}

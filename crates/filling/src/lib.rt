@@ -8,7 +8,7 @@ ghost use Rattle.cells.specs.Lents.{rows};
 ghost use Rattle.keys.specs.Seen.{Sees};
 ghost use Rattle.filling.specs.Fills.{Fills, refusal, by_row, by_rows};
 
-use guideline::entries::{Data, Entry, Prescription, Value};
+use guideline::entries::{Data, Entry, Prescription};
 use guideline::refusals::{Ending, Refusal};
 use guideline::rows::Row070;
 use guideline::{both, either};
@@ -34,12 +34,12 @@ impl Filled {
 }
 
 // A blank PRK does not differ from the row.
-fn same_prk(r: Row070, prk: Value) -> bool
+fn same_prk(r: Row070, prk: Option<u32>) -> bool
     ensures { result ≡ same_prk r prk }
 {
     match prk {
-        Value::Blank => true,
-        Value::Given(given) => given == r.prkode,
+        None => true,
+        Some(given) => given == r.prkode,
     }
 }
 
@@ -59,12 +59,12 @@ fn agrees(r: Row070, e: Entry) -> bool
 }
 
 // What is given stays.
-fn prk_filled(r: Row070, prk: Value) -> Value
+fn prk_filled(r: Row070, prk: Option<u32>) -> Option<u32>
     ensures { result ≡ prk_filled r prk }
 {
     match prk {
-        Value::Blank => Value::Given(r.prkode),
-        Value::Given(given) => Value::Given(given),
+        None => Some(r.prkode),
+        Some(given) => Some(given),
     }
 }
 
@@ -128,7 +128,7 @@ pub fn fill(t070: &[u8], s: Seen, e: Entry) -> Filled
 {
     let d = e.known;
     let hpk = d.hpk;
-    let Value::Given(given) = hpk else {
+    let Some(given) = hpk else {
         return Filled::Entry(e);
     };
     by_rows(tables::t070::ask(t070, s, given), e)

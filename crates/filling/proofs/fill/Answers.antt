@@ -17,4 +17,4 @@ returns c =
     let a = c.args in
     c.by_rows.ensures
     ∙ ap (λ (f : Found070). by_rows f a.e) c.ask.ensures
-    ∙ sym (with_hpk (rows T070 a.t070.now) a.e _ c.in-Given.is)
+    ∙ sym (with_hpk (rows T070 a.t070.now) a.e _ c.in-Some.is)

@@ -2,10 +2,10 @@
 use Rattle.guideline.specs.Filling.{prk_filled}
 use Rattle.filling.proofs.prk_filled.Goals as goal
 
-pub returns-in-Blank : goal.returns-in-Blank
+pub returns-in-None : goal.returns-in-None
 unfolding prk_filled
-returns-in-Blank c = simp c.in-Blank.is
+returns-in-None c = simp c.in-None.is
 
-pub returns-in-Given : goal.returns-in-Given
+pub returns-in-Some : goal.returns-in-Some
 unfolding prk_filled
-returns-in-Given c = simp c.in-Given.is
+returns-in-Some c = simp c.in-Some.is

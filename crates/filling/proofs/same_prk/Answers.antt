@@ -2,10 +2,10 @@
 use Rattle.guideline.specs.Filling.{same_prk}
 use Rattle.filling.proofs.same_prk.Goals as goal
 
-pub returns-in-Blank : goal.returns-in-Blank
+pub returns-in-None : goal.returns-in-None
 unfolding same_prk
-returns-in-Blank c = simp c.in-Blank.is
+returns-in-None c = simp c.in-None.is
 
-pub returns-in-Given : goal.returns-in-Given
+pub returns-in-Some : goal.returns-in-Some
 unfolding same_prk
-returns-in-Given c = simp c.in-Given.is
+returns-in-Some c = simp c.in-Some.is
