@@ -6,39 +6,41 @@ use mathlib.Core.Path.{◌≡◌, refl}
 use native.Mathlib.Omega.{arith}
 use lib.ListN.{length}
 use lib.Dec.{leb}
-use Rattle.records.specs.Digits.{chars, field_of}
-use Rattle.records.specs.Layout.{Part, text, mutation, number, Values, width, total, every, digit_part, mutation_part, values, said, refused, numbers}
-use Rattle.records.specs.declared.parts.Field.TheVariants.{Number, NoDigits}
+use Rattle.records.specs.Digits.{chars}
+use Rattle.records.specs.Numbers.{read_refusal, field_of}
+use Rattle.std.specs.Prelude.{Ok, Err}
+use Rattle.records.specs.Layout.{Part, text, mutation, number, Values, width, total, every, digit_part, mutation_part, values, said, refused, read_by, numbers}
+use Rattle.records.specs.declared.ReadRefusal.{ReadRefusal}
 use Rattle.records.proofs.Bools.{and_off}
 use Rattle.records.proofs.Chars.{length_chars}
-use Rattle.records.proofs.Numbers.{field_digits, field_said, field_below, field_none}
+use Rattle.records.proofs.Numbers.{field_digits, field_said, field_below, field_none, refused_digit}
 
 -- a field from the place on has no digits
 pub record Lacks (ps : List Part) (at : ℕ) (s : List ℕ) : Type 0 where
   pub digits : every digit_part ps at s ≡ false
 
-pub here : {k : ℕ} {ps : List Part} {at : ℕ} {s : List ℕ} → field_of (chars s at k) ≡ NoDigits → Lacks (number k ∷ ps) at s
+pub here : {k : ℕ} {ps : List Part} {at : ℕ} {s : List ℕ} {e : ReadRefusal} → field_of (chars s at k) ≡ Err e → Lacks (number k ∷ ps) at s
 unfolding every
-here e = record { digits = rw (field_none _ e) }
+here h = record { digits = rw (field_none _ _ h) }
 
-pub here_mutation : {ps : List Part} {at : ℕ} {s : List ℕ} → field_of (chars s at 1) ≡ NoDigits → Lacks (mutation ∷ ps) at s
+pub here_mutation : {ps : List Part} {at : ℕ} {s : List ℕ} {e : ReadRefusal} → field_of (chars s at 1) ≡ Err e → Lacks (mutation ∷ ps) at s
 unfolding every
-here_mutation e = record { digits = rw (field_none _ e) }
+here_mutation h = record { digits = rw (field_none _ _ h) }
 
 pub later : {p : Part} {ps : List Part} {at : ℕ} {s : List ℕ} → Lacks ps (at + width p) s → Lacks (p ∷ ps) at s
 unfolding every
 later {p} {ps} {at} {s} l = record { digits = rw l.digits (and_off (digit_part p (chars s at (width p)))) }
 
-pub no_digits : (ps : List Part) (s : List ℕ) → Lacks ps 0 s → refused 203 ≡ numbers ps s
+pub no_digits : {R : Type 0} (ps : List Part) (g : Values ps → R) (s : List ℕ) (l : List ℕ) (e : ReadRefusal) → field_of l ≡ Err e → Lacks ps 0 s → refused (read_refusal e) ≡ read_by g (numbers ps s)
 unfolding numbers
-no_digits ps s l = rw l.digits
+no_digits ps g s l e h k = rw (k.digits, refused_digit l e h)
 
 -- each field from the place on was read as its number
 abbrev pub Fields : (ps : List Part) → ℕ → List ℕ → Values ps → Type 0
 Fields [] at s v = Unit {0}
 Fields (text t ∷ ps) at s v = Fields ps (at + length t) s v.1
-Fields (mutation ∷ ps) at s v = (field_of (chars s at 1) ≡ Number v.0) × Fields ps (at + 1) s v.1
-Fields (number k ∷ ps) at s v = (field_of (chars s at k) ≡ Number v.0) × Fields ps (at + k) s v.1
+Fields (mutation ∷ ps) at s v = (field_of (chars s at 1) ≡ Ok v.0) × Fields ps (at + 1) s v.1
+Fields (number k ∷ ps) at s v = (field_of (chars s at k) ≡ Ok v.0) × Fields ps (at + k) s v.1
 
 -- each has at most the digits of its field
 abbrev pub Below : (ps : List Part) → Values ps → Type 0

@@ -1,13 +1,10 @@
 // The parts of a record by place and width, whatever the file.
 ghost use Rattle.std.specs.Prelude.{◌≡◌, ◌+◌, ◌≤◌, length, leb};
 ghost use Rattle.std.proofs.lemmas.List.Edits.{sets};
-ghost use Rattle.records.specs.Digits.{chars, same, field_of, digits};
+ghost use Rattle.records.specs.Digits.{chars, same, digits};
+ghost use Rattle.records.specs.Numbers.{field_of};
 
-#[derive(Clone, Copy)]
-pub enum Field {
-    Number(u64),
-    NoDigits,
-}
+use crate::ReadRefusal;
 
 fn wide(x: u8) -> u64
     ensures { result ≡ x }
@@ -31,7 +28,7 @@ pub fn is_text(s: &[u8], at: usize, text: &[u8]) -> bool
 }
 
 // The number that the digits at the place say. (Twelve is the widest field of the files.)
-pub fn number_at(s: &[u8], at: usize, width: usize) -> Field
+pub fn number_at(s: &[u8], at: usize, width: usize) -> Result<u64, ReadRefusal>
     requires { (at + width ≤ length s.now) × (width ≤ 12) }
     ensures { result ≡ field_of (chars s.now at width) }
 {
@@ -40,15 +37,15 @@ pub fn number_at(s: &[u8], at: usize, width: usize) -> Field
     while read < width {
         let d = s[at + read];
         if d < b'0' {
-            return Field::NoDigits;
+            return Err(ReadRefusal::Digit);
         }
         if b'9' < d {
-            return Field::NoDigits;
+            return Err(ReadRefusal::Digit);
         }
         n = n * 10 + wide(d - b'0');
         read += 1;
     }
-    Field::Number(n)
+    Ok(n)
 }
 
 // Whether a text of that width has room at the place. (The place may be any number, so nothing is added to it.)

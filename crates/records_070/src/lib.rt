@@ -4,16 +4,16 @@
 ghost use Rattle.std.specs.Prelude.{◌≡◌, ◌+◌, ◌≤◌, length};
 ghost use Rattle.records.specs.Layout.{every, fixed_part, read_by, numbers, fits};
 ghost use Rattle.records.specs.File.{reading, writing, leaves};
-ghost use Rattle.records_070.specs.File070.{layout_070, values_070, record_070, file_070, says_070};
-ghost use Rattle.records.specs.Numbers.{write_number};
+ghost use Rattle.records_070.specs.File070.{layout_070, values_070, record_070, file_070};
+ghost use Rattle.records.specs.Numbers.{says, write_number};
 ghost use Rattle.records.specs.Puts.{puts_first, puts_rest};
 
 use decimals::put_text;
-use records::parts::{Field, has_room, is_text, number_at, put_digits};
-use records::{ReadRefusal, Written};
+use records::parts::{has_room, is_text, number_at, put_digits};
+use records::{ReadRefusal, WriteRefusal};
 
 // HPANPR: PRK in HPK. PRANGP: GPK in PRK. HPANGP: GPK in HPK.
-#[derive(Clone, Copy)]
+#[derive(Clone, Copy, PartialEq, Eq)]
 pub struct Record070 {
     pub mutation: u32,
     pub hpkode: u32,
@@ -22,12 +22,6 @@ pub struct Record070 {
     pub gpkode: u32,
     pub prangp: u32,
     pub hpangp: u32,
-}
-
-#[derive(Clone, Copy)]
-pub enum Read070 {
-    Record(Record070),
-    Refused(ReadRefusal),
 }
 
 // The places and widths of the parts, under document 004's names.
@@ -63,14 +57,14 @@ const HIGHEST_CODE: u32 = 99999999;
 
 const HIGHEST_COUNT: u32 = 999999;
 
-pub fn read_070(s: &[u8]) -> Read070
-    ensures { says_070 result ≡ reading file_070 s.now }
+pub fn read_070(s: &[u8]) -> Result<Record070, ReadRefusal>
+    ensures { says result ≡ reading file_070 s.now }
 {
     if s.len() != LENGTH_070 {
-        return Read070::Refused(ReadRefusal::Length);
+        return Err(ReadRefusal::Length);
     }
     if !fixed_070(s) {
-        return Read070::Refused(ReadRefusal::Fixed);
+        return Err(ReadRefusal::Fixed);
     }
     numbers_070(s)
 }
@@ -85,35 +79,21 @@ fn fixed_070(s: &[u8]) -> bool
     is_text(s, EMPTY, b"                 ")
 }
 
-fn numbers_070(s: &[u8]) -> Read070
+fn numbers_070(s: &[u8]) -> Result<Record070, ReadRefusal>
     requires { length s.now ≡ 64 }
-    ensures { says_070 result ≡ read_by record_070 (numbers layout_070 s.now) }
+    ensures { says result ≡ read_by record_070 (numbers layout_070 s.now) }
 {
-    let Field::Number(mutation) = number_at(s, MUTKOD, MUTKOD_WIDTH) else {
-        return Read070::Refused(ReadRefusal::Digit);
-    };
-    let Field::Number(hpkode) = number_at(s, HPKODE, CODE_WIDTH) else {
-        return Read070::Refused(ReadRefusal::Digit);
-    };
-    let Field::Number(prkode) = number_at(s, PRKODE, CODE_WIDTH) else {
-        return Read070::Refused(ReadRefusal::Digit);
-    };
-    let Field::Number(hpanpr) = number_at(s, HPANPR, COUNT_WIDTH) else {
-        return Read070::Refused(ReadRefusal::Digit);
-    };
-    let Field::Number(gpkode) = number_at(s, GPKODE, CODE_WIDTH) else {
-        return Read070::Refused(ReadRefusal::Digit);
-    };
-    let Field::Number(prangp) = number_at(s, PRANGP, COUNT_WIDTH) else {
-        return Read070::Refused(ReadRefusal::Digit);
-    };
-    let Field::Number(hpangp) = number_at(s, HPANGP, COUNT_WIDTH) else {
-        return Read070::Refused(ReadRefusal::Digit);
-    };
+    let mutation = number_at(s, MUTKOD, MUTKOD_WIDTH)?;
+    let hpkode = number_at(s, HPKODE, CODE_WIDTH)?;
+    let prkode = number_at(s, PRKODE, CODE_WIDTH)?;
+    let hpanpr = number_at(s, HPANPR, COUNT_WIDTH)?;
+    let gpkode = number_at(s, GPKODE, CODE_WIDTH)?;
+    let prangp = number_at(s, PRANGP, COUNT_WIDTH)?;
+    let hpangp = number_at(s, HPANGP, COUNT_WIDTH)?;
     if HIGHEST_MUTATION < mutation {
-        return Read070::Refused(ReadRefusal::Mutation);
+        return Err(ReadRefusal::Mutation);
     }
-    Read070::Record(Record070 {
+    Ok(Record070 {
         mutation: mutation as u32,
         hpkode: hpkode as u32,
         prkode: prkode as u32,
@@ -124,20 +104,20 @@ fn numbers_070(s: &[u8]) -> Read070
     })
 }
 
-pub fn write_070(buf: &mut [u8], at: usize, r: Record070) -> Written
+pub fn write_070(buf: &mut [u8], at: usize, r: Record070) -> Result<(), WriteRefusal>
     ensures { (write_number result ≡ writing file_070 r at (length buf.old)) × (buf.new ≡ leaves file_070 r at buf.old) }
 {
     let fits = fits_070(r);
     let room = has_room(buf.len(), at, LENGTH_070);
     if !fits {
-        return Written::TooWide;
+        return Err(WriteRefusal::TooWide);
     }
     if !room {
-        return Written::NoRoom;
+        return Err(WriteRefusal::NoRoom);
     }
     put_front(buf, at, r);
     put_back(buf, at, r);
-    Written::Done
+    Ok(())
 }
 
 fn fits_070(r: Record070) -> bool

@@ -4,28 +4,22 @@
 ghost use Rattle.std.specs.Prelude.{◌≡◌, ◌+◌, ◌≤◌, length};
 ghost use Rattle.records.specs.Layout.{every, fixed_part, read_by, numbers, fits};
 ghost use Rattle.records.specs.File.{reading, writing, leaves};
-ghost use Rattle.records_730.specs.File730.{layout_730, values_730, record_730, file_730, says_730};
-ghost use Rattle.records.specs.Numbers.{write_number};
+ghost use Rattle.records_730.specs.File730.{layout_730, values_730, record_730, file_730};
+ghost use Rattle.records.specs.Numbers.{says, write_number};
 ghost use Rattle.records.specs.Puts.{puts_first, puts_rest};
 
 use decimals::put_text;
-use records::parts::{Field, has_room, is_text, number_at, put_digits};
-use records::{ReadRefusal, Written};
+use records::parts::{has_room, is_text, number_at, put_digits};
+use records::{ReadRefusal, WriteRefusal};
 
 // CDHOEV in thousandths.
-#[derive(Clone, Copy)]
+#[derive(Clone, Copy, PartialEq, Eq)]
 pub struct Record730 {
     pub mutation: u32,
     pub srtcde: u32,
     pub code: u32,
     pub cdhoev: u64,
     pub cdeenh: u32,
-}
-
-#[derive(Clone, Copy)]
-pub enum Read730 {
-    Record(Record730),
-    Refused(ReadRefusal),
 }
 
 // The places and widths of the parts, under document 004's names.
@@ -69,14 +63,14 @@ const HIGHEST_CDHOEV: u64 = 999999999999;
 
 const HIGHEST_CDEENH: u32 = 999999;
 
-pub fn read_730(s: &[u8]) -> Read730
-    ensures { says_730 result ≡ reading file_730 s.now }
+pub fn read_730(s: &[u8]) -> Result<Record730, ReadRefusal>
+    ensures { says result ≡ reading file_730 s.now }
 {
     if s.len() != LENGTH_730 {
-        return Read730::Refused(ReadRefusal::Length);
+        return Err(ReadRefusal::Length);
     }
     if !fixed_730(s) {
-        return Read730::Refused(ReadRefusal::Fixed);
+        return Err(ReadRefusal::Fixed);
     }
     numbers_730(s)
 }
@@ -97,29 +91,19 @@ fn fixed_730(s: &[u8]) -> bool
     is_text(s, EMPTY, b"                   ")
 }
 
-fn numbers_730(s: &[u8]) -> Read730
+fn numbers_730(s: &[u8]) -> Result<Record730, ReadRefusal>
     requires { length s.now ≡ 64 }
-    ensures { says_730 result ≡ read_by record_730 (numbers layout_730 s.now) }
+    ensures { says result ≡ read_by record_730 (numbers layout_730 s.now) }
 {
-    let Field::Number(mutation) = number_at(s, MUTKOD, MUTKOD_WIDTH) else {
-        return Read730::Refused(ReadRefusal::Digit);
-    };
-    let Field::Number(srtcde) = number_at(s, SRTCDE, SRTCDE_WIDTH) else {
-        return Read730::Refused(ReadRefusal::Digit);
-    };
-    let Field::Number(code) = number_at(s, CODE, CODE_WIDTH) else {
-        return Read730::Refused(ReadRefusal::Digit);
-    };
-    let Field::Number(cdhoev) = number_at(s, CDHOEV, CDHOEV_WIDTH) else {
-        return Read730::Refused(ReadRefusal::Digit);
-    };
-    let Field::Number(cdeenh) = number_at(s, CDEENH, CDEENH_WIDTH) else {
-        return Read730::Refused(ReadRefusal::Digit);
-    };
+    let mutation = number_at(s, MUTKOD, MUTKOD_WIDTH)?;
+    let srtcde = number_at(s, SRTCDE, SRTCDE_WIDTH)?;
+    let code = number_at(s, CODE, CODE_WIDTH)?;
+    let cdhoev = number_at(s, CDHOEV, CDHOEV_WIDTH)?;
+    let cdeenh = number_at(s, CDEENH, CDEENH_WIDTH)?;
     if HIGHEST_MUTATION < mutation {
-        return Read730::Refused(ReadRefusal::Mutation);
+        return Err(ReadRefusal::Mutation);
     }
-    Read730::Record(Record730 {
+    Ok(Record730 {
         mutation: mutation as u32,
         srtcde: srtcde as u32,
         code: code as u32,
@@ -128,20 +112,20 @@ fn numbers_730(s: &[u8]) -> Read730
     })
 }
 
-pub fn write_730(buf: &mut [u8], at: usize, r: Record730) -> Written
+pub fn write_730(buf: &mut [u8], at: usize, r: Record730) -> Result<(), WriteRefusal>
     ensures { (write_number result ≡ writing file_730 r at (length buf.old)) × (buf.new ≡ leaves file_730 r at buf.old) }
 {
     let fits = fits_730(r);
     let room = has_room(buf.len(), at, LENGTH_730);
     if !fits {
-        return Written::TooWide;
+        return Err(WriteRefusal::TooWide);
     }
     if !room {
-        return Written::NoRoom;
+        return Err(WriteRefusal::NoRoom);
     }
     put_front(buf, at, r);
     put_back(buf, at, r);
-    Written::Done
+    Ok(())
 }
 
 fn fits_730(r: Record730) -> bool

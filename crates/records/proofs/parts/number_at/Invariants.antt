@@ -1,7 +1,8 @@
 -- `number_at` meets its contract: one pass that tests and adds up.
 use Prim.Native.Nat.{◌≤◌, ◌<◌, ◌+◌, ◌-◌, ◌^◌}
 use mathlib.Core.Path.{◌≡◌}
-use Rattle.records.specs.Digits.{chars, field_of}
+use Rattle.records.specs.Digits.{chars}
+use Rattle.records.specs.Numbers.{field_of}
 use Rattle.records.proofs.Numbers.{field_from}
 use Rattle.records.proofs.parts.number_at.Given as goal
 
