@@ -1,32 +1,18 @@
 -- The end of a record, character by character. Assumes nothing.
 use Prim.Native.Nat.{ℕ, suc, ◌+◌, ◌<◌, ◌≤◌}
-use mathlib.Core.Bool.{Bool, true, false, ◌&&◌}
+use mathlib.Core.Bool.{true, false}
 use mathlib.Core.List.{List, [], ◌∷◌}
-use mathlib.Core.Path.{◌≡◌, refl}
+use mathlib.Core.Path.{◌≡◌}
 use mathlib.Core.Logic.{⊎_elim}
 use native.Mathlib.Omega.{arith}
 use native.Mathlib.Nat.{not-suc-le-zero}
 use native.Mathlib.Numerals.{add-one}
-use borrow.Author.Tests.{eq-eqb, ne_eqb}
 use lib.ListN.{length, get_or, drop, drop_of_length-le, length-drop}
 use lib.Seq.{drop-cons}
-use lib.Dec.{eqb}
-use Rattle.records.proofs.Bools.{and_true}
-use Rattle.decimals.specs.Decimal.{line_feed}
-use Rattle.unit_lines.specs.Records.{crlf, carriage_return}
+use Rattle.unit_lines.specs.Records.{crlf}
 use Rattle.unit_lines.specs.Machine.{end_in}
 use Rattle.decimals.proofs.Cases.{true_or_false}
 use Rattle.unit_lines.proofs.Run.{end_here, end_on}
-
-and_false : (b : Bool) → false ≡ (b && false)
-and_false true = refl
-and_false false = refl
-
-pub crlf_feed : (p c : ℕ) → c ≡ line_feed → eqb p carriage_return ≡ crlf p c
-crlf_feed p c e = rw (eq-eqb c line_feed e) (and_true (eqb p carriage_return))
-
-pub crlf_not : (p c : ℕ) → (c ≡ line_feed → ⊥) → false ≡ crlf p c
-crlf_not p c n = rw (ne_eqb c line_feed n) (and_false (eqb p carriage_return))
 
 module _ (p : ℕ) (s : List ℕ) (i : ℕ) (h : i < length s) where
   pub end_found : crlf p (get_or s i 0) ≡ true → end_in p (drop i s) ≡ 0
