@@ -10,16 +10,16 @@ use Rattle.call_lines.proofs.Lining.{length_hex}
 use Rattle.call_lines.proofs.lines.put_written.Goals as goal
 
 pub put_field-bytes-requires : goal.put_field-bytes-requires
-put_field-bytes-requires c = omega (arith, field_64 c.args.number space (omega arith))
+put_field-bytes-requires c = omega (arith, field_64 c.number_of.result space (omega arith))
 
 pub put_hex-end-requires : goal.put_hex-end-requires
-put_hex-end-requires c = omega (arith, field_64 c.args.number space (omega arith))
+put_hex-end-requires c = omega (arith, field_64 c.number_of.result space (omega arith))
 
 pub bounds-out-end : goal.bounds-out-end
-bounds-out-end c = omega (arith, field_64 c.args.number space (omega arith), length_hex c.args.buffer.now)
+bounds-out-end c = omega (arith, field_64 c.number_of.result space (omega arith), length_hex c.args.buffer.now)
 
 pub overflow_add-result : goal.overflow_add-result
-overflow_add-result c = omega (arith, field_64 c.args.number space (omega arith), length_hex c.args.buffer.now)
+overflow_add-result c = omega (arith, field_64 c.number_of.result space (omega arith), length_hex c.args.buffer.now)
 
 pub shape_of-out : goal.shape_of-out
 shape_of-out c = simp length-set (omega arith)
@@ -27,6 +27,6 @@ shape_of-out c = simp length-set (omega arith)
 pub returns : goal.returns
 unfolding write_line
 returns c = (
-  put_on c.put_field-bytes.ensures (put_on c.put_hex-end.ensures (record { bytes = refl; place = refl })),
-  omega (arith, c.put_field-bytes.ensures.place, c.put_hex-end.ensures.place, field_64 c.args.number space (omega arith), length_hex c.args.buffer.now),
+  rw (← c.number_of.ensures) (put_on c.put_field-bytes.ensures (put_on c.put_hex-end.ensures (record { bytes = refl; place = refl }))),
+  omega (arith, c.put_field-bytes.ensures.place, c.put_hex-end.ensures.place, field_64 c.number_of.result space (omega arith), length_hex c.args.buffer.now),
 )
