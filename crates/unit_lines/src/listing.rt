@@ -18,9 +18,8 @@ pub fn list_piece(m: ListMachine, input: &[u8], out: &mut [u8]) -> Piece
     ensures { Lists m input.now out.old out.new result }
 {
     let fed = feed(m, input, 0, out, 0);
-    let machine = fed.machine;
     Piece {
-        machine,
+        machine: fed.machine,
         written: fed.written,
     }
 }

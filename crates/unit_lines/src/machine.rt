@@ -2,7 +2,7 @@
 ghost use Rattle.std.specs.Prelude.{◌≡◌, [], ◌+◌, ◌-◌, ◌≤◌, ◌<◌, length, drop, leb};
 ghost use Rattle.decimals.specs.Put.{Put};
 ghost use Rattle.unit_lines.specs.Records.{crlf, line_of};
-ghost use Rattle.unit_lines.specs.Machine.{longest_line, but_last, end_in, run, keep, text_of};
+ghost use Rattle.unit_lines.specs.Machine.{longest_line, but_last, end_from, run, keep, text_of};
 ghost use Rattle.unit_lines.specs.Feeding.{Feeds, Finishes, Moves};
 
 use crate::text::ListMachine;
@@ -20,20 +20,20 @@ fn ends(last: u8, c: u8) -> bool
     last == CARRIAGE_RETURN && c == LINE_FEED
 }
 
-// The place of the LF that ends the record, or the input's length. `before` is the character before the place.
-fn find_end(input: &[u8], from: usize, before: u8) -> usize
+// The place of the LF that ends the record. `before` is the character before the place from which it is looked for.
+fn find_end(input: &[u8], from: usize, before: u8) -> Option<usize>
     requires { from ≤ length input.now }
-    ensures { result ≡ from + end_in before (drop from input.now) }
+    ensures { result ≡ end_from before input.now from }
 {
     let mut last = before;
     for i in from..input.len() {
         let c = input[i];
         if ends(last, c) {
-            return i;
+            return Some(i);
         }
         last = c;
     }
-    input.len()
+    None
 }
 
 fn has_room(room: usize, at: usize) -> bool
@@ -65,10 +65,13 @@ fn list_whole(input: &[u8], from: usize, out: &mut [u8], at: usize) -> Moved
     let mut next = from;
     let mut end = at;
     while has_room(out.len(), end) {
-        let e = find_end(input, next, 0);
-        if e == input.len() {
-            return Moved { next, stop: e, end };
-        }
+        let Some(e) = find_end(input, next, 0) else {
+            return Moved {
+                next,
+                stop: input.len(),
+                end,
+            };
+        };
         end = list_text(&input[next..e - 1], out, end);
         next = e + 1;
     }
@@ -106,23 +109,19 @@ fn feed_on(m: ListMachine, input: &[u8], from: usize, out: &mut [u8], at: usize)
     requires { (from ≤ length input.now) × (longest_line ≤ length out.old - at) }
     ensures { Feeds m input.now from out.old at out.new result }
 {
-    let e = find_end(input, from, m.last());
-    let begun = m.grown(&input[from..e]);
-    if e == input.len() {
+    let Some(e) = find_end(input, from, m.last()) else {
         return Fed {
-            machine: begun,
-            taken: e - from,
+            machine: m.grown(&input[from..]),
+            taken: input.len() - from,
             written: 0,
         };
-    }
-    let end = list_begun(begun, out, at);
-    let moved = list_whole(input, e + 1, out, end);
-    let next = moved.next;
-    let stop = moved.stop;
+    };
+    let first = list_begun(m.grown(&input[from..e]), out, at);
+    let Moved { next, stop, end } = list_whole(input, e + 1, out, first);
     Fed {
         machine: ListMachine::empty().grown(&input[next..stop]),
         taken: stop - from,
-        written: moved.end - at,
+        written: end - at,
     }
 }
 
@@ -131,10 +130,8 @@ fn feed_on(m: ListMachine, input: &[u8], from: usize, out: &mut [u8], at: usize)
 pub fn feed(m: ListMachine, input: &[u8], from: usize, out: &mut [u8], at: usize) -> Fed
     ensures { Feeds m input.now from out.old at out.new result }
 {
-    if from <= input.len() {
-        if has_room(out.len(), at) {
-            return feed_on(m, input, from, out, at);
-        }
+    if from <= input.len() && has_room(out.len(), at) {
+        return feed_on(m, input, from, out, at);
     }
     Fed {
         machine: m.grown(&[]),
