@@ -3,4 +3,5 @@ pub mod Digits
 pub mod Layout
 pub mod File
 pub mod Numbers
+pub mod Parts
 pub mod Puts
