@@ -9,6 +9,7 @@ pub mod LayoutLaws
 pub mod Placed
 pub mod Fields
 pub mod Fitting
+pub mod Walk
 pub mod Steps
 pub mod ReadsBack
 pub mod WritesBack

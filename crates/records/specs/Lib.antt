@@ -4,4 +4,3 @@ pub mod Layout
 pub mod File
 pub mod Numbers
 pub mod Parts
-pub mod Puts

@@ -1,5 +1,5 @@
 -- The code's layout as the parts that it means, and a record's values as an array of numbers: one for each part, 0 for a fixed text. Assumes nothing.
-use Rattle.std.specs.Prelude.{ℕ, ◌^◌, ◌&&◌, Bool, true, List, [], ◌∷◌, Result, Ok, drop, map, leb, slice_index}
+use Rattle.std.specs.Prelude.{ℕ, ◌&&◌, Bool, true, List, [], ◌∷◌, Result, Ok, drop, map, leb, slice_index}
 use Rattle.records.specs.Layout.{Part, text, mutation, number, Value, Values}
 use Rattle.records.specs.Numbers.{field_of}
 use Rattle.records.specs.declared.ReadRefusal.{ReadRefusal}
