@@ -5,12 +5,12 @@ use mathlib.Core.List.{List, [], ◌∷◌, ◌++◌, append_assoc}
 use mathlib.Core.Path.{◌≡◌, refl, sym, ◌∙◌}
 use native.Mathlib.Omega.{arith}
 use borrow.Author.Tests.{eq-eqb, eqb-true}
-use lib.ListN.{length, drop, length-append, drop_of_length-le, take-append-drop}
-use lib.Seq.{take_at, drop_at, drop-drop}
+use lib.ListN.{length, get_or, drop, length-append, drop_of_length-le, take-append-drop}
+use lib.Seq.{get_or-append_seam, take_at, drop_at, drop-drop}
 use lib.Dec.{eqb}
 use Rattle.records.specs.Digits.{chars, unless}
 use Rattle.records.specs.Layout.{Part, Value, Values, Reading, said, refused, width, total, every, fixed_part, digit_part, mutation_part, values, fits_part, fits, spelt, spell, numbers, scan}
-use Rattle.records.specs.Parts.{from_numbers, to_numbers}
+use Rattle.records.specs.Parts.{to_number, from_numbers, to_numbers}
 use Rattle.decimals.proofs.Cases.{and_split}
 use Rattle.records.proofs.Chars.{length_chars}
 use Rattle.records.proofs.Spelling.{length_spelt, length_spell}
@@ -71,10 +71,17 @@ fits_values (p ∷ ps) at s h d =
     let e = and_split (digit_part p (chars s at (width p))) (every digit_part ps (at + width p) s) d in
     rw (value_fits p (chars s at (width p)) (length_chars s at (width p) (omega arith)) e.0, fits_values ps (at + width p) s (omega arith) e.1)
 
-pub from_to_numbers : (ps : List Part) (v : Values ps) → from_numbers ps (to_numbers ps v) ≡ v
+-- the numbers behind others
+from_to_behind : (ps : List Part) (v : Values ps) (pre : List ℕ) (i : ℕ) → length pre ≡ i → from_numbers ps i (pre ++ to_numbers ps v) ≡ v
 unfolding from_numbers to_numbers
-from_to_numbers [] v = refl
-from_to_numbers (p ∷ ps) v = rw (from_to_number p v.0, from_to_numbers ps v.1)
+from_to_behind [] v pre i h = refl
+from_to_behind (p ∷ ps) v pre i h =
+    let rest = from_to_behind ps v.1 (pre ++ (to_number p v.0 ∷ [])) (i + 1) (rw (length-append pre (to_number p v.0 ∷ []), h)) in
+    let here : get_or (pre ++ (to_number p v.0 ∷ to_numbers ps v.1)) i 0 ≡ to_number p v.0 = rw (← h) (get_or-append_seam pre (to_number p v.0) (to_numbers ps v.1) 0) in
+    rw (here, from_to_number p v.0, ← append_assoc pre (to_number p v.0 ∷ []) (to_numbers ps v.1), rest)
+
+pub from_to_numbers : (ps : List Part) (v : Values ps) → from_numbers ps 0 (to_numbers ps v) ≡ v
+from_to_numbers ps v = from_to_behind ps v [] 0 refl
 
 pub unless_said : {A : Type 0} (b : Bool) (n : ℕ) (next : Reading A) (v : A) → unless b (refused n) next ≡ said v → (b ≡ true) × (next ≡ said v)
 unless_said true n next v h = (refl, h)

@@ -16,5 +16,6 @@ pub mod WritesBack
 pub mod SameSets
 pub mod RefusalsLeave
 pub mod Bounds
+pub mod Files
 pub mod EveryFile
 pub mod OneResult

@@ -43,7 +43,7 @@ lacking false m n v e = (refl, cc)
 
 -- numbers that were read: each part had digits, and what then does not fit is the mutation digit
 pub read : (ps : List Part) (s n : List ℕ) → length s ≡ total ps → said n ≡ unless (every digit_part ps 0 s) (refused 203) (said (to_numbers ps (values ps 0 s))) →
-    (every digit_part ps 0 s ≡ true) × (n ≡ to_numbers ps (values ps 0 s)) × (fits ps (from_numbers ps n) ≡ every mutation_part ps 0 s)
+    (every digit_part ps 0 s ≡ true) × (n ≡ to_numbers ps (values ps 0 s)) × (fits ps (from_numbers ps 0 n) ≡ every mutation_part ps 0 s)
 read ps s n l e =
     let (d, h) = unless_said _ 203 (said (to_numbers ps (values ps 0 s))) n (sym e) in
     let m : n ≡ to_numbers ps (values ps 0 s) = sym (said_same _ _ h) in

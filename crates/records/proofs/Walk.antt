@@ -18,12 +18,6 @@ use Rattle.records.specs.declared.part.Part.{Part as PartCode}
 use Rattle.records.specs.declared.part.Part.TheVariants.{Mutation}
 use Rattle.records.proofs.Spelling.{length_spelt}
 
-from_cons : (p : Part) (ps : List Part) (n : List ℕ) (i : ℕ) → ◌≡◌ {A = Values (p ∷ ps)} (from_numbers (p ∷ ps) (drop i n)) (from_number p (get_or n i 0), from_numbers ps (drop (i + 1) n))
-unfolding from_numbers
-from_cons p ps n i =
-    ap (λ (x : ℕ). (from_number p x, from_numbers ps (drop 1 (drop i n)))) (get_or-drop i n 0 0 ∙ ap (λ (k : ℕ). get_or n k 0) (add-zero i))
-    ∙ ap (λ (m : List ℕ). (from_number p (get_or n i 0), from_numbers ps m)) (drop-drop 1 i n)
-
 module _ (l : List PartCode) (i : ℕ) (d : PartCode) (h : i < length l) where
   abbrev at_turn : Part
   at_turn = part_of (get_or l i d)
@@ -46,19 +40,16 @@ module _ (l : List PartCode) (i : ℕ) (d : PartCode) (h : i < length l) where
   unfolding to_numbers values
   numbers_turn at s e = rw (turn, e)
 
-  pub fits_turn : (n : List ℕ) {b : Bool} → b ≡ fits_part at_turn (from_number at_turn (get_or n i 0)) → fits (parts_of (drop i l)) (from_numbers (parts_of (drop i l)) (drop i n)) ≡ (b && fits behind (from_numbers behind (drop (i + 1) n)))
-  unfolding fits
-  fits_turn n e =
-      ap (λ (ps : List Part). fits ps (from_numbers ps (drop i n))) turn
-      ∙ (ap (fits (at_turn ∷ behind)) (from_cons at_turn behind n i) ∙ ap (λ (x : Bool). x && fits behind (from_numbers behind (drop (i + 1) n))) (sym e))
-
-  pub spell_turn : (n : List ℕ) → spell (parts_of (drop i l)) (from_numbers (parts_of (drop i l)) (drop i n)) ≡ spelt at_turn (from_number at_turn (get_or n i 0)) ++ spell behind (from_numbers behind (drop (i + 1) n))
-  unfolding spell
-  spell_turn n = ap (λ (ps : List Part). spell ps (from_numbers ps (drop i n))) turn ∙ ap (spell (at_turn ∷ behind)) (from_cons at_turn behind n i)
+  pub fits_turn : (n : List ℕ) {b : Bool} → b ≡ fits_part at_turn (from_number at_turn (get_or n i 0)) → fits (parts_of (drop i l)) (from_numbers (parts_of (drop i l)) i n) ≡ (b && fits behind (from_numbers behind (i + 1) n))
+  unfolding fits from_numbers
+  fits_turn n e = rw (turn, e)
 
   -- a part stored in front of those behind it
-  pub sets_turn : (buf n : List ℕ) (at : ℕ) → sets buf at (spell (parts_of (drop i l)) (from_numbers (parts_of (drop i l)) (drop i n))) ≡ sets (sets buf at (spelt at_turn (from_number at_turn (get_or n i 0)))) (at + width at_turn) (spell behind (from_numbers behind (drop (i + 1) n)))
-  sets_turn buf n at = rw (spell_turn n, sets_append buf at (spelt at_turn (from_number at_turn (get_or n i 0))) (spell behind (from_numbers behind (drop (i + 1) n))), length_spelt at_turn (from_number at_turn (get_or n i 0)))
+  pub sets_turn : (buf n : List ℕ) (at : ℕ) → sets buf at (spell (parts_of (drop i l)) (from_numbers (parts_of (drop i l)) i n)) ≡ sets (sets buf at (spelt at_turn (from_number at_turn (get_or n i 0)))) (at + width at_turn) (spell behind (from_numbers behind (i + 1) n))
+  unfolding spell from_numbers
+  sets_turn buf n at =
+      let v = from_number at_turn (get_or n i 0) in
+      rw (turn, sets_append buf at (spelt at_turn v) (spell behind (from_numbers behind (i + 1) n)), length_spelt at_turn v)
 
 -- no part is left
 pub none_left : (l : List PartCode) (i : ℕ) → length l ≤ i → parts_of (drop i l) ≡ []

@@ -1,5 +1,5 @@
 -- The code's layout as the parts that it means, and a record's values as an array of numbers: one for each part, 0 for a fixed text. Assumes nothing.
-use Rattle.std.specs.Prelude.{ℕ, ◌&&◌, Bool, true, List, [], ◌∷◌, Result, Ok, drop, map, leb, slice_index}
+use Rattle.std.specs.Prelude.{ℕ, ◌+◌, ◌&&◌, Bool, true, List, [], ◌∷◌, Result, Ok, map, leb, slice_index}
 use Rattle.records.specs.Layout.{Part, text, mutation, number, Value, Values}
 use Rattle.records.specs.Numbers.{field_of}
 use Rattle.records.specs.declared.ReadRefusal.{ReadRefusal}
@@ -34,13 +34,14 @@ from_number (text t) n = tt
 from_number mutation n = n
 from_number (number k) n = n
 
-unfoldable pub to_numbers : (ps : List Part) → Values ps → List ℕ
+abbrev pub to_numbers : (ps : List Part) → Values ps → List ℕ
 to_numbers [] v = []
 to_numbers (p ∷ ps) v = to_number p v.0 ∷ to_numbers ps v.1
 
-unfoldable pub from_numbers : (ps : List Part) → List ℕ → Values ps
-from_numbers [] l = tt
-from_numbers (p ∷ ps) l = (from_number p (slice_index l 0), from_numbers ps (drop 1 l))
+-- the numbers from the place i on
+abbrev pub from_numbers : (ps : List Part) → ℕ → List ℕ → Values ps
+from_numbers [] i l = tt
+from_numbers (p ∷ ps) i l = (from_number p (slice_index l i), from_numbers ps (i + 1) l)
 
 -- the number that a part's characters say: a fixed text says none
 abbrev pub number_of : Part → List ℕ → Result ℕ ReadRefusal

@@ -38,8 +38,8 @@ impl<const N: usize> Layout<N> {
     }
 
     pub fn write(&self, numbers: &[u64; N], buf: &mut [u8], at: usize) -> Result<(), WriteRefusal>
-        ensures answer { write_number result ≡ answer (parts_of self.now.parts.now) (from_numbers (parts_of self.now.parts.now) numbers.now) at (length buf.old) }
-        ensures bytes { buf.new ≡ leaving (parts_of self.now.parts.now) (from_numbers (parts_of self.now.parts.now) numbers.now) at buf.old }
+        ensures answer { write_number result ≡ answer (parts_of self.now.parts.now) (from_numbers (parts_of self.now.parts.now) 0 numbers.now) at (length buf.old) }
+        ensures bytes { buf.new ≡ leaving (parts_of self.now.parts.now) (from_numbers (parts_of self.now.parts.now) 0 numbers.now) at buf.old }
     {
         if !self.fits(numbers) {
             return Err(WriteRefusal::TooWide);
@@ -89,7 +89,7 @@ impl<const N: usize> Layout<N> {
     }
 
     fn fits(&self, numbers: &[u64; N]) -> bool
-        ensures { result ≡ fits (parts_of self.now.parts.now) (from_numbers (parts_of self.now.parts.now) numbers.now) }
+        ensures { result ≡ fits (parts_of self.now.parts.now) (from_numbers (parts_of self.now.parts.now) 0 numbers.now) }
     {
         for (i, part) in self.parts.iter().enumerate() {
             if !part.fits(numbers[i]) {
@@ -101,7 +101,7 @@ impl<const N: usize> Layout<N> {
 
     fn put(&self, numbers: &[u64; N], buf: &mut [u8], place: usize)
         requires { place + total (parts_of self.now.parts.now) ≤ length buf.old }
-        ensures { buf.new ≡ sets buf.old place (spell (parts_of self.now.parts.now) (from_numbers (parts_of self.now.parts.now) numbers.now)) }
+        ensures { buf.new ≡ sets buf.old place (spell (parts_of self.now.parts.now) (from_numbers (parts_of self.now.parts.now) 0 numbers.now)) }
     {
         let mut at = place;
         for (i, part) in self.parts.iter().enumerate() {

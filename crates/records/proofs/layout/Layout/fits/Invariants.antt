@@ -7,4 +7,4 @@ use Rattle.records.proofs.layout.Layout.fits.Given as goal
 abbrev pub invariant-loop-i : goal.invariant-loop-i
 invariant-loop-i g l =
     IsTrue (narrow (parts_of (drop l.i l.self.parts.now)))
-    × (fits (parts_of l.self.parts.now) (from_numbers (parts_of l.self.parts.now) l.numbers) ≡ fits (parts_of (drop l.i l.self.parts.now)) (from_numbers (parts_of (drop l.i l.self.parts.now)) (drop l.i l.numbers)))
+    × (fits (parts_of l.self.parts.now) (from_numbers (parts_of l.self.parts.now) 0 l.numbers) ≡ fits (parts_of (drop l.i l.self.parts.now)) (from_numbers (parts_of (drop l.i l.self.parts.now)) l.i l.numbers))

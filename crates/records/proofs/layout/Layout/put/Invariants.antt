@@ -9,4 +9,4 @@ abbrev pub invariant-loop-i : goal.invariant-loop-i
 invariant-loop-i g l =
     (length l.buf ≡ length l.initial.buf)
     × (l.at + total (parts_of (drop l.i l.self.parts.now)) ≤ length l.buf)
-    × (sets l.buf l.at (spell (parts_of (drop l.i l.self.parts.now)) (from_numbers (parts_of (drop l.i l.self.parts.now)) (drop l.i l.numbers))) ≡ sets l.initial.buf l.place (spell (parts_of l.self.parts.now) (from_numbers (parts_of l.self.parts.now) l.numbers)))
+    × (sets l.buf l.at (spell (parts_of (drop l.i l.self.parts.now)) (from_numbers (parts_of (drop l.i l.self.parts.now)) l.i l.numbers)) ≡ sets l.initial.buf l.place (spell (parts_of l.self.parts.now) (from_numbers (parts_of l.self.parts.now) 0 l.numbers)))
