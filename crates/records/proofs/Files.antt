@@ -6,8 +6,7 @@ use native.Mathlib.Omega.{arith}
 use Rattle.records.specs.Layout.{Part, Values, Reading, said, refused, read_by, scan}
 use Rattle.records.specs.File.{File, reading}
 use Rattle.records.specs.Parts.{to_numbers, from_numbers}
-use Rattle.records.proofs.Fitting.{Within, fits_within}
-use Rattle.records.proofs.LayoutLaws.{spell_scan, from_to_numbers}
+use Rattle.records.proofs.LayoutLaws.{from_to_numbers}
 
 values_said : (ps : List Part) (x : Reading (Values ps)) (n : List ℕ) → said n ≡ read_by (to_numbers ps) x → x ≡ said (from_numbers ps 0 n)
 values_said ps (said v) n e = let q : n ≡ to_numbers ps v = cc in ap said (rw q (sym (from_to_numbers ps v)))
@@ -22,13 +21,6 @@ module _ {Record : Type 0} (f : File Record) (s : List ℕ) where
   unfolding reading
   read_refused k e = refused_by (to_numbers f.layout) f.record_of (scan f.layout s) k e
 
-  module _ (n : List ℕ) (e : said n ≡ read_by (to_numbers f.layout) (scan f.layout s)) where
-    scanned : scan f.layout s ≡ said (from_numbers f.layout 0 n)
-    scanned = values_said f.layout (scan f.layout s) n e
-
-    pub read_said : said (f.record_of (from_numbers f.layout 0 n)) ≡ reading f s
-    unfolding reading
-    read_said = sym (ap (read_by f.record_of) scanned)
-
-    pub read_within : Within f.layout (from_numbers f.layout 0 n)
-    read_within = fits_within f.layout (from_numbers f.layout 0 n) (spell_scan f.layout s (from_numbers f.layout 0 n) scanned).0
+  pub read_said : (n : List ℕ) → said n ≡ read_by (to_numbers f.layout) (scan f.layout s) → said (f.record_of (from_numbers f.layout 0 n)) ≡ reading f s
+  unfolding reading
+  read_said n e = sym (ap (read_by f.record_of) (values_said f.layout (scan f.layout s) n e))

@@ -1,8 +1,8 @@
 // A record as its parts in order: the reader and the writer of every file.
-ghost use Rattle.std.specs.Prelude.{◌≡◌, ◌+◌, ◌≤◌, ◌<◌, ◌^◌, length, IsTrue};
+ghost use Rattle.std.specs.Prelude.{◌≡◌, ◌+◌, ◌≤◌, ◌<◌, ◌^◌, length, IsTrue, IfOk};
 ghost use Rattle.std.proofs.lemmas.List.Edits.{sets};
 ghost use Rattle.records.specs.Digits.{unless};
-ghost use Rattle.records.specs.Layout.{total, every, fixed_part, digit_part, values, said, refused, read_by, scan, fits, spell, answer, leaving};
+ghost use Rattle.records.specs.Layout.{total, every, fixed_part, digit_part, values, said, refused, read_by, scan, fits, Within, spell, answer, leaving};
 ghost use Rattle.records.specs.Numbers.{says, write_number};
 ghost use Rattle.records.specs.Parts.{parts_of, narrow, to_numbers, from_numbers};
 
@@ -21,7 +21,8 @@ pub struct Layout<const N: usize> {
 
 impl<const N: usize> Layout<N> {
     pub fn read(&self, s: &[u8]) -> Result<[u64; N], ReadRefusal>
-        ensures { says result ≡ read_by (to_numbers (parts_of self.now.parts.now)) (scan (parts_of self.now.parts.now) s.now) }
+        ensures numbers { says result ≡ read_by (to_numbers (parts_of self.now.parts.now)) (scan (parts_of self.now.parts.now) s.now) }
+        ensures fit { IfOk result (λ n. Within (parts_of self.now.parts.now) (from_numbers (parts_of self.now.parts.now) 0 n)) }
     {
         if s.len() != self.total() {
             return Err(ReadRefusal::Length);

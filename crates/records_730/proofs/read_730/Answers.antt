@@ -1,36 +1,16 @@
--- The numbers that the layout's reader answers are the file's record, and none is wider than its field.
+-- The numbers that the layout's reader answers are the file's record.
 use mathlib.Core.Path.{◌≡◌}
-use native.Mathlib.Omega.{arith}
 use Rattle.std.proofs.lemmas.Result.{err_from_is_err_and}
-use Rattle.records.specs.Parts.{from_numbers}
-use Rattle.records.proofs.Files.{read_refused, read_said, read_within}
-use Rattle.records.proofs.Fitting.{Within}
-use Rattle.records_730.specs.File730.{layout_730, file_730}
+use Rattle.records.proofs.Files.{read_refused, read_said}
+use Rattle.records_730.specs.File730.{file_730}
 use Rattle.records_730.proofs.read_730.Goals as goal
-use Rattle.records_730.proofs.read_730.Goals.{In_ok-mutation}
 
 pub returns-in_err-mutation : goal.returns-in_err-mutation
 unfolding file_730
 returns-in_err-mutation c =
     let p = err_from_is_err_and c.from_residual.result c.from_residual.ensures.1 in
-    rw (p.1, p.2) (read_refused file_730 _ _ c.in_err-mutation.ensures)
-
-within : (c : In_ok-mutation) → Within layout_730 (from_numbers layout_730 0 c.in_ok-mutation.field-0)
-unfolding file_730
-within c = read_within file_730 _ _ c.in_ok-mutation.ensures
-
-pub overflow_cast-result : goal.overflow_cast-result
-overflow_cast-result c = omega (arith, (within c).0)
-
-pub overflow_cast-result-2 : goal.overflow_cast-result-2
-overflow_cast-result-2 c = omega (arith, (within c).1.0)
-
-pub overflow_cast-result-3 : goal.overflow_cast-result-3
-overflow_cast-result-3 c = omega (arith, (within c).1.1.0)
-
-pub overflow_cast-result-4 : goal.overflow_cast-result-4
-overflow_cast-result-4 c = omega (arith, (within c).1.1.1.1.0)
+    rw (p.1, p.2) (read_refused file_730 _ _ c.in_err-mutation.ensures.numbers)
 
 pub returns : goal.returns
 unfolding file_730
-returns c = read_said file_730 _ _ c.in_ok-mutation.ensures
+returns c = read_said file_730 _ _ c.in_ok-mutation.ensures.numbers
