@@ -9,11 +9,13 @@ pub mod LayoutLaws
 pub mod Placed
 pub mod Fields
 pub mod Fitting
+pub mod Walk
 pub mod Steps
 pub mod ReadsBack
 pub mod WritesBack
 pub mod SameSets
 pub mod RefusalsLeave
 pub mod Bounds
+pub mod Files
 pub mod EveryFile
 pub mod OneResult

@@ -1,6 +1,8 @@
 // What the records of document 004's files share: the parts of a record, and how reading and writing one end. Each file is a crate above this one.
 #![tactic(auto)]
 
+pub mod layout;
+pub mod part;
 pub mod parts;
 
 ghost use Rattle.std.specs.Prelude.{◌≡◌};
