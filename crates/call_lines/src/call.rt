@@ -45,6 +45,7 @@ pub trait CallRecord: Copy {
     ghost place_in_front: { 20 ≤ FRONT };
 }
 
+#[tactic(auto, using(decimals::proofs::Decimal::field_64))]
 pub fn put_read<R: CallRecord>(s: &[u8], n: usize, out: &mut [u8], at: usize) -> usize
     requires { (front + n ≤ length s.now) × (at + longest_line ≤ length out.old) }
     ensures { Put out.old at (read_call R.file s.now n) out.new result × (result ≤ at + longest_line) }

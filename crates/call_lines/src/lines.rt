@@ -9,6 +9,7 @@ use decimals::{LINE_FEED, SPACE, put_field};
 use records::WriteRefusal;
 
 // Room for a number of 64 bits and the character behind it, each.
+#[tactic(auto, using(decimals::proofs::Decimal::field_64))]
 pub fn put_spaced(out: &mut [u8], at: usize, first: u64, others: &[u64]) -> usize
     requires { at + 21 * (1 + length others.now) ≤ length out.old }
     ensures { Put out.old at (spaced first others.now) out.new result × (result ≤ at + 21 * (1 + length others.now)) }
@@ -31,6 +32,7 @@ fn number_of(written: Result<(), WriteRefusal>) -> u64
     }
 }
 
+#[tactic(auto, using(decimals::proofs::Decimal::field_64, crate::proofs::Lining::length_hex))]
 pub fn put_written(
     out: &mut [u8],
     at: usize,

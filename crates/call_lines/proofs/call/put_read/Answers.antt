@@ -5,9 +5,6 @@ use Rattle.decimals.proofs.Decimal.{field_64}
 use Rattle.call_lines.proofs.Parts.{read_refused}
 use Rattle.call_lines.proofs.call.put_read.Goals as goal
 
-pub put_field-requires : goal.put_field-requires
-put_field-requires g c = omega (arith, field_64 c.number.result line_feed (omega arith))
-
 pub returns-in-Err : goal.returns-in-Err
 returns-in-Err g c =
     let p = c.put_field.ensures in

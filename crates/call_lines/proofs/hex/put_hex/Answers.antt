@@ -8,18 +8,9 @@ use Rattle.call_lines.proofs.hex.put_hex.Goals as goal
 pub loop-b-init : goal.loop-b-init
 loop-b-init c = (omega arith, omega arith, refl, refl)
 
-pub hex_digit-requires : goal.hex_digit-requires
-hex_digit-requires c = omega (arith, c.type_inv.bytes c.loop-b.b-index)
-
-pub bounds-out-end-in-loop-b : goal.bounds-out-end-in-loop-b
-bounds-out-end-in-loop-b c = simp length-set (omega arith)
-
 pub loop-b-preserved : goal.loop-b-preserved
 loop-b-preserved c =
     (omega arith, omega arith, simp length-set (omega arith), hex_turn _ _ _ _ _ _ c.loop-b-test.true c.hex_digit.ensures c.hex_digit-in-loop-b.ensures ∙ c.loop-b.invariant.3)
-
-pub shape_of-out : goal.shape_of-out
-shape_of-out c = c.loop-b.invariant.2
 
 pub returns : goal.returns
 returns c = hex_end _ _ _ _ _ _ c.loop-b.invariant.0 (omega arith) c.loop-b.invariant.1 c.loop-b.invariant.3

@@ -7,9 +7,6 @@ use Rattle.decimals.proofs.Decimal.{field_64}
 use Rattle.call_lines.proofs.Lining.{spaced_turn, spaced_place, spaced_end}
 use Rattle.call_lines.proofs.lines.put_spaced.Goals as goal
 
-pub put_field-end-requires : goal.put_field-end-requires
-put_field-end-requires c = omega (arith, field_64 c.loop-n.last space (omega arith))
-
 pub loop-n-preserved : goal.loop-n-preserved
 loop-n-preserved c =
     let p = c.put_field-end.ensures in
@@ -21,9 +18,6 @@ loop-n-preserved c =
       place = spaced_place _ _ _ _ _ _ _ c.loop-n-test.true p ∙ c.loop-n.invariant.place;
       bytes = spaced_turn _ _ _ _ _ _ _ c.loop-n-test.true p ∙ c.loop-n.invariant.bytes;
     }
-
-pub put_field-requires : goal.put_field-requires
-put_field-requires c = omega (arith, field_64 c.loop-n.last line_feed (omega arith))
 
 pub returns : goal.returns
 returns c =
