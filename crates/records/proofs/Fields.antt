@@ -1,21 +1,15 @@
 -- The number of a part as its characters say it, and its refusal. Assumes nothing.
-use Prim.Native.Nat.{ℕ, ◌+◌, ◌^◌, ◌≤◌, ◌<◌}
-use mathlib.Core.Bool.{Bool, true, false, ◌&&◌}
-use mathlib.Core.List.{List, [], ◌∷◌}
+use Prim.Native.Nat.{ℕ}
+use mathlib.Core.Bool.{true, false}
+use mathlib.Core.List.{List}
 use mathlib.Core.Path.{◌≡◌, refl, sym}
 use native.Mathlib.Omega.{arith}
-use lib.ListN.{length}
-use lib.Dec.{leb}
-use Rattle.records.specs.Digits.{chars}
-use Rattle.records.specs.Numbers.{read_refusal, field_of}
 use Rattle.std.specs.Prelude.{Ok, Err}
-use Rattle.records.specs.Layout.{Part, text, mutation, number, Values, width, total, every, digit_part, mutation_part, value, values, said, refused, read_by, numbers}
+use Rattle.records.specs.Layout.{Part, text, mutation, number, digit_part, value}
 use Rattle.records.specs.Parts.{to_number, number_of}
 use Rattle.records.specs.declared.ReadRefusal.{ReadRefusal}
 use Rattle.records.specs.declared.ReadRefusal.TheVariants.{Digit}
-use Rattle.records.proofs.Bools.{and_off}
-use Rattle.records.proofs.Chars.{length_chars}
-use Rattle.records.proofs.Numbers.{field_digits, field_said, field_below, field_none, refused_digit}
+use Rattle.records.proofs.Numbers.{field_digits, field_said, field_none, refused_digit}
 
 -- a part whose number was read, and one whose number was refused
 pub number_said : (p : Part) (c : List ℕ) (n : ℕ) → number_of p c ≡ Ok n → (true ≡ digit_part p c) × (n ≡ to_number p (value p c))

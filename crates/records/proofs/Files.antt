@@ -1,7 +1,7 @@
 -- What a file's reader and writer make of the numbers that its layout's answer. Assumes nothing.
 use Prim.Native.Nat.{ℕ}
 use mathlib.Core.List.{List}
-use mathlib.Core.Path.{◌≡◌, refl, sym, ap, ◌∙◌}
+use mathlib.Core.Path.{◌≡◌, sym, ap}
 use native.Mathlib.Omega.{arith}
 use Rattle.records.specs.Layout.{Part, Values, Reading, said, refused, read_by, scan}
 use Rattle.records.specs.File.{File, reading}

@@ -1,13 +1,13 @@
 -- Whether a record's numbers fit their parts, whatever the file. Assumes nothing.
-use Prim.Native.Nat.{ℕ, ◌^◌, ◌≤◌, ◌<◌}
-use mathlib.Core.Bool.{true, false}
+use Prim.Native.Nat.{◌^◌}
+use mathlib.Core.Bool.{true}
 use mathlib.Core.List.{List, [], ◌∷◌}
-use mathlib.Core.Path.{◌≡◌, refl, sym}
-use borrow.Author.Tests.{leb-true, ltb-true, le-leb, lt-leb, lt-ltb, le-ltb}
+use mathlib.Core.Path.{◌≡◌, refl}
+use borrow.Author.Tests.{leb-true, ltb-true, le-leb, lt-ltb}
 use lib.Dec.{leb, ltb}
 use Rattle.records.specs.Layout.{Part, text, mutation, number, Values, fits, Within}
 use Rattle.decimals.proofs.Cases.{and_split}
-use Rattle.records.proofs.Bools.{and_both, and_off}
+use Rattle.records.proofs.Bools.{and_both}
 
 pub within_fits : (ps : List Part) (v : Values ps) → Within ps v → fits ps v ≡ true
 unfolding fits

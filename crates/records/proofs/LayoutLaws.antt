@@ -73,7 +73,6 @@ fits_values (p ∷ ps) at s h d =
 
 -- the numbers behind others
 from_to_behind : (ps : List Part) (v : Values ps) (pre : List ℕ) (i : ℕ) → length pre ≡ i → from_numbers ps i (pre ++ to_numbers ps v) ≡ v
-unfolding from_numbers to_numbers
 from_to_behind [] v pre i h = refl
 from_to_behind (p ∷ ps) v pre i h =
     let rest = from_to_behind ps v.1 (pre ++ (to_number p v.0 ∷ [])) (i + 1) (rw (length-append pre (to_number p v.0 ∷ []), h)) in

@@ -2,7 +2,6 @@ pub mod Bools
 pub mod Chars
 pub mod Numbers
 pub mod SaidDigits
-pub mod Stores
 pub mod Spelling
 pub mod PartLaws
 pub mod LayoutLaws

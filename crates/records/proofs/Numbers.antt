@@ -6,14 +6,15 @@ use mathlib.Core.Path.{◌≡◌, refl}
 use native.Mathlib.Omega.{arith}
 use native.Mathlib.Nat.{pow-suc, pow-le-pow_right, mul-one, mul_assoc, mul_comm}
 use native.Mathlib.Numerals.{add-one}
-use borrow.Author.Tests.{leb-true, le-leb, lt-leb}
-use lib.ListN.{length, get_or}
+use borrow.Author.Tests.{leb-true}
+use lib.ListN.{length, get_or, drop, drop_of_length-le}
+use Rattle.std.specs.Char.{is_ascii_digit}
+use Rattle.std.proofs.lemmas.List.{drop_more}
 use lib.Dec.{leb}
 use Rattle.std.specs.Prelude.{Result, Ok, Err}
-use Rattle.records.specs.Digits.{chars, digits_only, horner, unless}
+use Rattle.records.specs.Digits.{digits_only, horner, unless}
 use Rattle.records.specs.Numbers.{field_of}
 use Rattle.decimals.proofs.Cases.{and_split}
-use Rattle.records.proofs.Chars.{chars_turn}
 use Rattle.records.specs.declared.ReadRefusal.{ReadRefusal}
 use Rattle.records.specs.declared.ReadRefusal.TheVariants.{Digit}
 
@@ -25,23 +26,19 @@ pub from_zero : (l : List ℕ) → field_of l ≡ field_from 0 l
 unfolding field_of field_from
 from_zero l = refl
 
-pub from_end : (n : ℕ) → field_from n [] ≡ Ok n
+pub from_end : (l : List ℕ) (i n : ℕ) → length l ≤ i → field_from n (drop i l) ≡ Ok n
 unfolding field_from
-from_end n = refl
+from_end l i n h = rw (drop_of_length-le l {i = i} h)
 
 -- a turn of the loop that reads a field, at its i-th character
-module _ (s : List ℕ) (at k i n : ℕ) (h : i < k) (j : at + k ≤ length s) where
-  pub from_digit : 48 ≤ get_or s (at + i) 0 → get_or s (at + i) 0 ≤ 57 → field_from n (chars s (at + i) (k - i)) ≡ field_from (n * 10 + (get_or s (at + i) 0 - 48)) (chars s (at + (i + 1)) (k - (i + 1)))
+module _ (l : List ℕ) (i n : ℕ) (h : i < length l) where
+  pub from_digit : true ≡ is_ascii_digit (get_or l i 0) → field_from n (drop i l) ≡ field_from (n * 10 + (get_or l i 0 - 48)) (drop (i + 1) l)
   unfolding field_from
-  from_digit l u = rw (chars_turn s at k i h j, le-leb 48 _ l, le-leb _ 57 u)
+  from_digit d = rw (drop_more l i 0 h, ← d)
 
-  pub from_below : get_or s (at + i) 0 < 48 → field_from n (chars s (at + i) (k - i)) ≡ (Err Digit)
+  pub from_other : false ≡ is_ascii_digit (get_or l i 0) → field_from n (drop i l) ≡ Err Digit
   unfolding field_from
-  from_below l = rw (chars_turn s at k i h j, lt-leb 48 _ l)
-
-  pub from_above : 48 ≤ get_or s (at + i) 0 → 57 < get_or s (at + i) 0 → field_from n (chars s (at + i) (k - i)) ≡ (Err Digit)
-  unfolding field_from
-  from_above l u = rw (chars_turn s at k i h j, le-leb 48 _ l, lt-leb _ 57 u)
+  from_other d = rw (drop_more l i 0 h, ← d)
 
 pub pow_more : (i : ℕ) → 10 ^ (i + 1) ≡ 10 ^ i * 10
 pow_more i = rw add-one (pow-suc 10 i)

@@ -12,7 +12,8 @@ use Rattle.records.specs.Digits.{unless}
 use Rattle.records.specs.Layout.{Part, Values, said, refused, read_by, total, every, fixed_part, digit_part, mutation_part, values, numbers, scan, fits, spell, answer, leaving}
 use Rattle.records.specs.Parts.{from_numbers, to_numbers}
 use Rattle.records.proofs.LayoutLaws.{fits_values, from_to_numbers, unless_said, said_same}
-use Rattle.records.proofs.Spelling.{length_spell, stored}
+use Rattle.decimals.proofs.Puts.{stored}
+use Rattle.records.proofs.Spelling.{length_spell}
 
 module _ {R : Type 0} (ps : List Part) (g : Values ps → R) (s : List ℕ) where
   pub other_length : (length s ≡ total ps → ⊥) → refused 201 ≡ read_by g (scan ps s)

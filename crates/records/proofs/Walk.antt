@@ -1,18 +1,17 @@
 -- A layout walked part by part: what a loop's turn at a part does to what is left, and what is left at the end. Assumes nothing.
 use Prim.Native.Nat.{ℕ, ◌+◌, ◌≤◌, ◌<◌}
 use mathlib.Core.Bool.{Bool, ◌&&◌}
-use mathlib.Core.List.{List, [], ◌∷◌, ◌++◌}
-use mathlib.Core.Path.{◌≡◌, sym, ap, ◌∙◌}
-use native.Mathlib.Nat.{add-zero}
+use mathlib.Core.List.{List, [], ◌∷◌}
+use mathlib.Core.Path.{◌≡◌, ap}
 use native.Mathlib.Omega.{arith}
 use lib.ListN.{length, get_or, drop, drop_of_length-le}
-use lib.Seq.{drop-drop, sets}
-use Rattle.std.proofs.lemmas.List.{drop_more, get_or-drop}
+use lib.Seq.{sets}
+use Rattle.std.proofs.lemmas.List.{drop_more}
 use Rattle.std.specs.Prelude.{IsTrue}
 use Rattle.decimals.proofs.Cases.{and_split}
 use Rattle.decimals.proofs.Puts.{sets_append}
 use Rattle.records.specs.Digits.{chars}
-use Rattle.records.specs.Layout.{Part, Values, width, total, every, value, values, fits_part, fits, spelt, spell}
+use Rattle.records.specs.Layout.{Part, width, total, every, value, values, fits_part, fits, spelt, spell}
 use Rattle.records.specs.Parts.{part_of, parts_of, narrow_part, narrow, to_number, from_number, to_numbers, from_numbers}
 use Rattle.records.specs.declared.part.Part.{Part as PartCode}
 use Rattle.records.specs.declared.part.Part.TheVariants.{Mutation}
@@ -37,16 +36,16 @@ module _ (l : List PartCode) (i : ℕ) (d : PartCode) (h : i < length l) where
   every_turn test at s e = rw (turn, e)
 
   pub numbers_turn : (at : ℕ) (s : List ℕ) {x : ℕ} → x ≡ to_number at_turn (value at_turn (chars s at (width at_turn))) → to_numbers (parts_of (drop i l)) (values (parts_of (drop i l)) at s) ≡ x ∷ to_numbers behind (values behind (at + width at_turn) s)
-  unfolding to_numbers values
+  unfolding values
   numbers_turn at s e = rw (turn, e)
 
   pub fits_turn : (n : List ℕ) {b : Bool} → b ≡ fits_part at_turn (from_number at_turn (get_or n i 0)) → fits (parts_of (drop i l)) (from_numbers (parts_of (drop i l)) i n) ≡ (b && fits behind (from_numbers behind (i + 1) n))
-  unfolding fits from_numbers
+  unfolding fits
   fits_turn n e = rw (turn, e)
 
   -- a part stored in front of those behind it
   pub sets_turn : (buf n : List ℕ) (at : ℕ) → sets buf at (spell (parts_of (drop i l)) (from_numbers (parts_of (drop i l)) i n)) ≡ sets (sets buf at (spelt at_turn (from_number at_turn (get_or n i 0)))) (at + width at_turn) (spell behind (from_numbers behind (i + 1) n))
-  unfolding spell from_numbers
+  unfolding spell
   sets_turn buf n at =
       let v = from_number at_turn (get_or n i 0) in
       rw (turn, sets_append buf at (spelt at_turn v) (spell behind (from_numbers behind (i + 1) n)), length_spelt at_turn v)

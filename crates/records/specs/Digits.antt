@@ -1,5 +1,5 @@
 -- Characters at a place, decimal digits with zeros in front, and the number that digits say. A character is a byte: 48 is 0, and 57 is 9. Assumes nothing.
-use Rattle.std.specs.Prelude.{ℕ, zero, suc, ◌+◌, ◌-◌, ◌*◌, ◌/◌, ◌%◌, Bool, true, false, cond, ◌&&◌, List, [], ◌∷◌, ◌++◌, take, drop, leb, eqb}
+use Rattle.std.specs.Prelude.{ℕ, ◌+◌, ◌-◌, ◌*◌, Bool, true, false, cond, ◌&&◌, List, [], ◌∷◌, take, drop, leb, eqb}
 
 -- k characters from the place at
 abbrev pub chars : List ℕ → ℕ → ℕ → List ℕ
@@ -14,11 +14,6 @@ same [] [] = true
 same [] (b ∷ m) = false
 same (a ∷ l) [] = false
 same (a ∷ l) (b ∷ m) = eqb a b && same l m
-
--- n in k digits, zeros in front; the last k digits where it has more
-unfoldable pub digits : ℕ → ℕ → List ℕ
-digits zero n = []
-digits (suc k) n = digits k (n / 10) ++ ((48 + n % 10) ∷ [])
 
 abbrev pub digits_only : List ℕ → Bool
 digits_only [] = true

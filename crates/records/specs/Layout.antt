@@ -1,6 +1,7 @@
 -- A file's record as a list of parts, and what reading and writing such a record mean, whatever the file, in document 01's numbers. Assumes nothing.
 use Rattle.std.specs.Prelude.{ℕ, zero, suc, ◌+◌, ◌^◌, ◌≤◌, ◌<◌, Bool, true, ◌&&◌, List, [], ◌∷◌, ◌++◌, length, take, drop, leb, ltb, eqb}
-use Rattle.records.specs.Digits.{chars, unless, same, digits, digits_only, horner}
+use Rattle.records.specs.Digits.{chars, unless, same, digits_only, horner}
+use Rattle.decimals.specs.Decimal.{digits}
 
 -- fixed text; the mutation digit, 0 to 3; a number of so many digits
 pub data Part : Type 0 where

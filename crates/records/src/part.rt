@@ -6,8 +6,8 @@ ghost use Rattle.records.specs.Layout.{width, fixed_part, fits_part, spelt};
 ghost use Rattle.records.specs.Parts.{part_of, narrow_part, from_number, number_of};
 
 use crate::ReadRefusal;
-use crate::parts::{is_text, number_at, put_digits};
-use decimals::put_text;
+use crate::parts::{is_text, number_at};
+use decimals::{put_digits, put_text};
 
 const HIGHEST_MUTATION: u64 = 3;
 

@@ -22,6 +22,7 @@ pub struct Record070 {
     pub hpangp: u32,
 }
 
+// Under document 004's names: BSTNUM, MUTKOD, HPKODE, PRKODE, HPANPR, GPKODE, PRANGP, HPANGP, and spaces.
 const LAYOUT_070: Layout<9> = Layout {
     parts: &[
         Part::Text(b"0070"),

@@ -20,6 +20,7 @@ pub struct Record730 {
     pub cdeenh: u32,
 }
 
+// Under document 004's names: BSTNUM, MUTKOD, THSRTC, SRTCDE, CODE, CDHOEV, TSEENH, CDEENH, and spaces.
 const LAYOUT_730: Layout<9> = Layout {
     parts: &[
         Part::Text(b"0730"),

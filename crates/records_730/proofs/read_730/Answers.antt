@@ -1,5 +1,4 @@
 -- The numbers that the layout's reader answers are the file's record.
-use mathlib.Core.Path.{◌≡◌}
 use Rattle.std.proofs.lemmas.Result.{err_from_is_err_and}
 use Rattle.records.proofs.Files.{read_refused, read_said}
 use Rattle.records_730.specs.File730.{file_730}

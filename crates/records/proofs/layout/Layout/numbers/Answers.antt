@@ -8,7 +8,6 @@ use lib.Seq.{take_all}
 use Rattle.std.proofs.lemmas.List.{take_more_set}
 use Rattle.std.proofs.lemmas.Result.{err_from_is_err_and}
 use Rattle.records.specs.Layout.{said, every, digit_part}
-use Rattle.records.specs.Parts.{to_numbers}
 use Rattle.records.proofs.Fields.{number_said, number_refused}
 use Rattle.records.proofs.Walk.{within_turn, narrow_turn, every_turn, numbers_turn, none_left}
 use Rattle.records.proofs.layout.Layout.numbers.Goals as goal
@@ -31,7 +30,7 @@ loop-i-preserved g c =
     )
 
 pub returns : goal.returns
-unfolding every to_numbers
+unfolding every
 returns g c =
     let none = none_left _ _ c.loop-i-test.false in
     let all = take_all c.loop-i.i c.loop-i.numbers (omega arith) in
