@@ -1,13 +1,14 @@
 -- Lines in the pieces in which they are written. Assumes nothing.
 use Prim.Native.Nat.{ℕ, suc, ◌+◌, ◌*◌, ◌/◌, ◌%◌, ◌<◌, ◌≤◌}
-use mathlib.Core.List.{List, [], ◌∷◌, ◌++◌, append_assoc}
-use mathlib.Core.Path.{◌≡◌, refl}
+use mathlib.Core.List.{List, [], ◌∷◌, ◌++◌}
+use mathlib.Core.Path.{◌≡◌, refl, ◌∙◌}
 use native.Mathlib.Omega.{arith}
 use native.Mathlib.Numerals.{add-one}
-use lib.ListN.{length, get_or, set, drop, drop_of_length-le}
+use lib.ListN.{length, get_or, set, drop, drop_of_length-le, length-append}
 use lib.Seq.{sets, drop-cons}
 use Rattle.decimals.specs.Decimal.{space, line_feed, field}
 use Rattle.decimals.specs.Put.{Put}
+use Rattle.decimals.proofs.Puts.{sets_append}
 use Rattle.records.specs.Layout.{refused}
 use Rattle.records.specs.File.{File}
 use Rattle.records.specs.Numbers.{read_refusal, read_numbers}
@@ -36,18 +37,25 @@ hex_end b old l at end i h j e f =
     let none = drop_of_length-le l j in
     record { bytes = rw none at f; place = omega (arith, length_hex l) }
 
--- numbers three by three, and the last ones
-pub three_more : (a b c d : ℕ) (l : List ℕ) → spaced a (b ∷ c ∷ d ∷ l) ≡ (field a space ++ (field b space ++ field c space)) ++ spaced d l
-unfolding spaced
-three_more a b c d l = simp append_assoc
+-- a turn of the loop that writes numbers, each with a space behind it
+module _ (b new others : List ℕ) (last end end' i : ℕ) (inside : i < length others) (p : Put b end (field last space) new end') where
+  spaced_on : spaced last (drop i others) ≡ field last space ++ spaced (get_or others i 0) (drop (i + 1) others)
+  unfolding spaced
+  spaced_on = rw (drop-cons others i 0 inside, add-one i)
 
-pub three_last : (a b c : ℕ) → spaced a (b ∷ c ∷ []) ≡ field a space ++ (field b space ++ field c line_feed)
-unfolding spaced
-three_last a b c = refl
+  pub spaced_turn : sets new end' (spaced (get_or others i 0) (drop (i + 1) others)) ≡ sets b end (spaced last (drop i others))
+  spaced_turn = rw (spaced_on, sets_append b end (field last space) (spaced (get_or others i 0) (drop (i + 1) others)), ← p.bytes, ← p.place)
 
-pub two_last : (a b : ℕ) → spaced a (b ∷ []) ≡ field a space ++ field b line_feed
+  pub spaced_place : end' + length (spaced (get_or others i 0) (drop (i + 1) others)) ≡ end + length (spaced last (drop i others))
+  spaced_place = rw (spaced_on, length-append (field last space) (spaced (get_or others i 0) (drop (i + 1) others))) (omega (arith, p.place))
+
+-- the end of that loop
+pub spaced_end : (b new old others : List ℕ) (last first end end' at i : ℕ) → length others ≤ i → Put b end (field last line_feed) new end' → end + length (spaced last (drop i others)) ≡ at + length (spaced first others)
+    → sets b end (spaced last (drop i others)) ≡ sets old at (spaced first others) → Put old at (spaced first others) new end'
 unfolding spaced
-two_last a b = refl
+spaced_end b new old others last first end end' at i h p e f =
+    let none = drop_of_length-le others h in
+    record { bytes = p.bytes ∙ (rw none at f); place = p.place ∙ (rw none at e) }
 
 -- a refusal's line is its number alone
 pub refused_line : {Record : Type 0} (f : File Record) (e : ReadRefusal) → read_line (read_numbers f (refused (read_refusal e))) ≡ field (read_refusal e) line_feed

@@ -6,15 +6,28 @@ use native.Mathlib.Omega.{arith}
 use lib.ListN.{length, take, drop}
 use lib.Seq.{length-take-le, take_at, drop_at}
 use Rattle.records.specs.Digits.{chars}
-use Rattle.records.specs.File.{File, writing, leaves}
+use Rattle.records.specs.Layout.{refused}
+use Rattle.records.specs.File.{File, reading, writing, leaves}
+use Rattle.records.specs.Numbers.{read_refusal}
+use Rattle.records.specs.declared.ReadRefusal.{ReadRefusal}
+use Rattle.decimals.specs.Decimal.{line_feed, field}
 use Rattle.records.proofs.Chars.{length_chars}
-use Rattle.call_lines.specs.Lines.{write_line, place_of, written, write_call, left_call}
+use Rattle.call_lines.proofs.Lining.{refused_line}
+use Rattle.call_lines.specs.Lines.{front, read_call, write_line, place_of, written, write_call, left_call}
 
 -- from a place to an end
 pub part_of : (s : List ℕ) (at n : ℕ) → take (at + n - at) (drop at s) ≡ chars s at n
 part_of s at n =
     let e : at + n - at ≡ n = omega arith in
     rw e
+
+-- a reader's refusal of them is the call's line
+pub read_refused : {Record : Type 0} (f : File Record) (s : List ℕ) (n number : ℕ) (e : ReadRefusal) → refused (read_refusal e) ≡ reading f (take (front + n - front) (drop front s)) → number ≡ read_refusal e →
+    read_call f s n ≡ field number line_feed
+read_refused f s n number e h is =
+    let k : front + n - front ≡ n = omega arith in
+    let r : refused (read_refusal e) ≡ reading f (chars s front n) = rw k at h in
+    rw (← r, is) (refused_line f e)
 
 -- the bytes put into the middle, found again
 middle : (s b : List ℕ) (at n : ℕ) → at + n ≤ length s → length b ≡ n → take n (drop at (take at s ++ (b ++ drop n (drop at s)))) ≡ b

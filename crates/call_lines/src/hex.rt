@@ -15,13 +15,10 @@ pub fn put_hex(out: &mut [u8], at: usize, bytes: &[u8]) -> usize
     ensures { Put out.old at (hex bytes.now) out.new result }
 {
     let mut end = at;
-    let mut i: usize = 0;
-    while i < bytes.len() {
-        let b = bytes[i];
+    for b in bytes {
         out[end] = hex_digit(b / 16);
         out[end + 1] = hex_digit(b % 16);
         end += 2;
-        i += 1;
     }
     end
 }

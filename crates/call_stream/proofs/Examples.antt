@@ -15,9 +15,10 @@ use Rattle.records.specs.Numbers.{read_numbers}
 use Rattle.records_730.specs.File730.{file_730}
 use Rattle.records_070.specs.File070.{file_070}
 use Rattle.call_lines.specs.Lines.{front, spaced, read_line, hex, write_line}
-use Rattle.call_stream.specs.Calls.{asked, found}
+use Rattle.call_stream.specs.Calls.{whole, more, broken, found}
 use Rattle.call_stream.specs.Lines.{broken_line, line_of, last_line}
-use Rattle.call_stream.specs.declared.calls.Found.TheVariants.{Read070, More, Broken}
+use Rattle.call_stream.specs.declared.calls.FileNumber.TheVariants.{File070}
+use Rattle.call_stream.specs.declared.calls.Asked.TheVariants.{Reads}
 
 -- the file, what is asked, the length
 front_of : ℕ → ℕ → ℕ → List ℕ
@@ -28,7 +29,7 @@ haldol : List ℕ
 haldol = front_of 730 0 64 ++ (ascii "073001850000001002162670000000200000002000303" ++ replicate 19 32)
 
 haldol_line : line_of (found haldol) haldol ≡ ascii "0 0 1 216267 20000 303" ++ (10 ∷ [])
-unfolding front_of haldol word_bytes word found asked line_of read_line spaced field decimal decimals file_730 reading scan every numbers values
+unfolding front_of haldol word_bytes word found line_of read_line spaced field decimal decimals file_730 reading scan every numbers values
 haldol_line = refl
 
 -- HPK 709050, PRK 65919, GPK 111368, of file 070
@@ -44,8 +45,8 @@ hpk : field 709050 space ≡ ascii "709050 "
 unfolding field
 hpk = rw (decimal_more 709050 (omega arith), hpk_tenth)
 
-mixtard_found : found mixtard ≡ Read070 64
-unfolding front_of mixtard word_bytes word found asked
+mixtard_found : found mixtard ≡ whole (record { file = File070; asked = Reads; bytes = 64 })
+unfolding front_of mixtard word_bytes word found
 mixtard_found = refl
 
 mixtard_read : read_numbers file_070 (reading file_070 (chars mixtard front 64)) ≡ 0 ∷ 0 ∷ 709050 ∷ 65919 ∷ 1 ∷ 111368 ∷ 3 ∷ 3 ∷ []
@@ -73,7 +74,7 @@ short : List ℕ
 short = front_of 730 0 3 ++ ascii "073"
 
 short_line : line_of (found short) short ≡ ascii "201" ++ (10 ∷ [])
-unfolding front_of short word_bytes word found asked line_of read_line spaced field decimal decimals file_730 reading scan
+unfolding front_of short word_bytes word found line_of read_line spaced field decimal decimals file_730 reading scan
 short_line = refl
 
 -- place 0 and a record of zeros, to a buffer of one byte and to none
@@ -84,14 +85,14 @@ no_room : List ℕ
 no_room = front_of 730 1 1 ++ zeros (175 ∷ [])
 
 no_room_line : line_of (found no_room) no_room ≡ ascii "206 af" ++ (10 ∷ [])
-unfolding front_of zeros no_room word_bytes word long found asked line_of write_line hex field decimal decimals file_730 writing leaves leaving answer fits
+unfolding front_of zeros no_room word_bytes word long found line_of write_line hex field decimal decimals file_730 writing leaves leaving answer fits
 no_room_line = refl
 
 no_buffer : List ℕ
 no_buffer = front_of 730 1 0 ++ zeros []
 
 no_buffer_line : line_of (found no_buffer) no_buffer ≡ ascii "206 " ++ (10 ∷ [])
-unfolding front_of zeros no_buffer word_bytes word long found asked line_of write_line hex field decimal decimals file_730 writing leaves leaving answer fits
+unfolding front_of zeros no_buffer word_bytes word long found line_of write_line hex field decimal decimals file_730 writing leaves leaving answer fits
 no_buffer_line = refl
 
 -- a record of file 070, to a buffer of one byte: its last number too wide, and as wide as it may be
@@ -99,17 +100,17 @@ wide : List ℕ → List ℕ
 wide last = front_of 70 1 1 ++ (replicate 8 0 ++ (word_bytes 3 ++ (word_bytes 99999999 ++ (word_bytes 2 ++ (word_bytes 3 ++ (word_bytes 4 ++ (word_bytes 5 ++ (last ++ (175 ∷ [])))))))))
 
 wide_line : (line_of (found (wide (word_bytes 1000000))) (wide (word_bytes 1000000)) ≡ ascii "205 af" ++ (10 ∷ [])) × (line_of (found (wide (word_bytes 999999))) (wide (word_bytes 999999)) ≡ ascii "206 af" ++ (10 ∷ []))
-unfolding front_of wide word_bytes word long found asked line_of write_line hex field decimal decimals file_070 writing leaves leaving answer fits
+unfolding front_of wide word_bytes word long found line_of write_line hex field decimal decimals file_070 writing leaves leaving answer fits
 wide_line = (refl, refl)
 
 -- another file, neither 0 nor 1, and more than 4,096 bytes; 4,096 bytes are no damage
-damaged : (found (front_of 731 0 64) ≡ Broken)
-    × (found (front_of 730 2 64) ≡ Broken)
-    × (found (front_of 70 2 64) ≡ Broken)
-    × (found (front_of 730 0 4_097) ≡ Broken)
-    × (found (front_of 730 1 4_096) ≡ More)
-    × (found (front_of 70 1 4_096) ≡ More)
-unfolding front_of word_bytes word found asked
+damaged : (found (front_of 731 0 64) ≡ broken)
+    × (found (front_of 730 2 64) ≡ broken)
+    × (found (front_of 70 2 64) ≡ broken)
+    × (found (front_of 730 0 4_097) ≡ broken)
+    × (found (front_of 730 1 4_096) ≡ more)
+    × (found (front_of 70 1 4_096) ≡ more)
+unfolding front_of word_bytes word found
 damaged = (refl, refl, refl, refl, refl, refl)
 
 -- a stream may end before a call, and not inside one

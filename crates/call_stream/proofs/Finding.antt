@@ -1,98 +1,79 @@
--- Which call the bytes begin with, by what holds of the numbers in front. Assumes nothing.
+-- Where the call ends that bytes begin with. Assumes nothing.
 use Prim.Native.Nat.{ℕ, ◌+◌, ◌<◌, ◌≤◌}
 use mathlib.Core.Bool.{Bool, true, false, cond}
 use mathlib.Core.List.{List}
 use mathlib.Core.Path.{◌≡◌, refl}
 use native.Mathlib.Omega.{arith}
-use borrow.Author.Tests.{eq-eqb, ne_eqb, le-leb, lt-leb, leb-true, leb-false}
-use lib.Dec.{eqb, leb}
+use borrow.Author.Tests.{le-leb, lt-leb, leb-true, leb-false}
+use lib.Dec.{leb}
 use lib.ListN.{length}
+use Rattle.std.specs.Prelude.{Some, None, Result, Ok, Err, IsErr}
 use Rattle.numbers.specs.Words.{word}
-use Rattle.call_lines.specs.Lines.{front, front_730, front_070, most_bytes}
-use Rattle.call_stream.specs.Calls.{longest_call, asked, found_730, found_070, of_file, found}
-use Rattle.call_stream.specs.declared.calls.Found.{Found}
-use Rattle.call_stream.specs.declared.calls.Found.TheVariants.{Read730, Write730, Read070, Write070, More, Broken}
+use Rattle.call_lines.specs.Lines.{front, most_bytes}
+use Rattle.call_stream.specs.Calls.{longest_call, Found, whole, broken, more, file_of, asked_by, front_of, call_length, reached, asks, found}
+use Rattle.call_stream.specs.declared.calls.FileNumber.{FileNumber}
+use Rattle.call_stream.specs.declared.calls.FileNumber.TheVariants.{File730, File070}
+use Rattle.call_stream.specs.declared.calls.Asked.{Asked}
+use Rattle.call_stream.specs.declared.calls.Asked.TheVariants.{Reads, Writes}
+use Rattle.call_stream.specs.declared.calls.Call.{Call}
+use Rattle.call_stream.specs.declared.calls.NoCall.{NoCall}
 
-module _ (read write : ℕ → Found) (before what n have : ℕ) where
-  pub read_whole : what ≡ 0 → front + n ≤ have → read n ≡ asked read write before what n have
-  unfolding asked
-  read_whole e h = rw (eq-eqb what 0 e, le-leb (front + n) have h)
+-- the only error
+pub no_call : (r : Found) → IsErr r → r ≡ broken
+no_call (Ok c) e = cc
+no_call (Err e) h = refl
 
-  pub read_more : what ≡ 0 → have < front + n → More ≡ asked read write before what n have
-  unfolding asked
-  read_more e h = rw (eq-eqb what 0 e, lt-leb (front + n) have h)
+pub front_more : (s : List ℕ) → length s < front → more ≡ found s
+unfolding found
+front_more s h = rw (lt-leb front (length s) h)
 
-  pub write_whole : what ≡ 1 → before + n ≤ have → write n ≡ asked read write before what n have
-  unfolding asked
-  write_whole e h = rw (e, le-leb (before + n) have h)
-
-  pub write_more : what ≡ 1 → have < before + n → More ≡ asked read write before what n have
-  unfolding asked
-  write_more e h = rw (e, lt-leb (before + n) have h)
-
-  pub neither : (what ≡ 0 → ⊥) → (what ≡ 1 → ⊥) → Broken ≡ asked read write before what n have
-  unfolding asked
-  neither e f = rw (ne_eqb what 0 e, ne_eqb what 1 f)
-
-module _ (file what n have : ℕ) where
-  pub of_730 : file ≡ 730 → found_730 what n have ≡ of_file file what n have
-  of_730 e = rw (eq-eqb file 730 e)
-
-  pub of_070 : file ≡ 70 → found_070 what n have ≡ of_file file what n have
-  of_070 e = rw (ne_eqb file 730 (λ f. omega arith), eq-eqb file 70 e)
-
-  pub no_file : (file ≡ 730 → ⊥) → (file ≡ 70 → ⊥) → Broken ≡ of_file file what n have
-  no_file e f = rw (ne_eqb file 730 e, ne_eqb file 70 f)
-
-module _ (s : List ℕ) where
-  pub front_more : length s < front → More ≡ found s
+module _ (s : List ℕ) (here : front ≤ length s) (n : ℕ) (e : n ≡ word s 8) where
+  pub too_long : most_bytes < n → broken ≡ found s
   unfolding found
-  front_more h = rw (lt-leb front (length s) h)
+  too_long j = rw (le-leb front (length s) here, ← e, lt-leb n most_bytes j)
 
-  pub too_long : (n : ℕ) → n ≡ word s 8 → front ≤ length s → most_bytes < n → Broken ≡ found s
+  -- by the file and by what is asked
+  pub numbered : n ≤ most_bytes → (w v : ℕ) → w ≡ word s 0 → v ≡ word s 4 → (file : Result FileNumber NoCall) (asked : Result Asked NoCall) → file_of w ≡ file → asked_by v ≡ asked →
+      asks file asked n (length s) ≡ found s
   unfolding found
-  too_long n e h j = rw (le-leb front (length s) h, ← e, lt-leb n most_bytes j)
+  numbered h w v f a file asked is by = rw (le-leb front (length s) here, ← e, le-leb n most_bytes h, ← f, ← a, is, by)
 
-  pub by_file : (file what n : ℕ) → file ≡ word s 0 → what ≡ word s 4 → n ≡ word s 8 → front ≤ length s → n ≤ most_bytes → of_file file what n (length s) ≡ found s
-  unfolding found
-  by_file file what n e f g h j = rw (le-leb front (length s) h, ← g, ← f, ← e, le-leb n most_bytes j)
+module _ (c : Call) (have : ℕ) where
+  pub all_there : call_length c ≤ have → whole c ≡ reached c have
+  all_there h = rw (le-leb (call_length c) have h)
+
+  pub part_there : have < call_length c → more ≡ reached c have
+  part_there h = rw (lt-leb (call_length c) have h)
 
 -- a whole call ends inside the bytes, and a part of one is shorter than the longest call
 abbrev pub Bounded : ℕ → Found → Type 0
-Bounded have (Read730 n) = (front + n ≤ have) × (n ≤ most_bytes)
-Bounded have (Write730 n) = (front_730 + n ≤ have) × (n ≤ most_bytes)
-Bounded have (Read070 n) = (front + n ≤ have) × (n ≤ most_bytes)
-Bounded have (Write070 n) = (front_070 + n ≤ have) × (n ≤ most_bytes)
-Bounded have More = have < longest_call
-Bounded have Broken = Unit {0}
+Bounded have (Ok (Some c)) = (call_length c ≤ have) × (c.bytes ≤ most_bytes)
+Bounded have (Ok None) = have < longest_call
+Bounded have (Err e) = Unit {0}
+
+pub front_most : (file : FileNumber) (asked : Asked) → front_of file asked ≤ 48
+front_most File730 Reads = omega arith
+front_most File730 Writes = omega arith
+front_most File070 Reads = omega arith
+front_most File070 Writes = omega arith
 
 either : (have : ℕ) (t : Bool) (x y : Found) → (t ≡ true → Bounded have x) → (t ≡ false → Bounded have y) → Bounded have (cond t x y)
 either have true x y f g = f refl
 either have false x y f g = g refl
 
-bounded_asked : (read write : ℕ → Found) (before what n have : ℕ) → before + n ≤ longest_call → front + n ≤ longest_call → (front + n ≤ have → Bounded have (read n)) → (before + n ≤ have → Bounded have (write n)) →
-    Bounded have (asked read write before what n have)
-unfolding asked
-bounded_asked read write before what n have k l r w =
-    either have (eqb what 0) _ _
-    (λ _. either have (leb (front + n) have) (read n) More (λ e. r (leb-true (front + n) have e)) (λ e. omega (arith, leb-false (front + n) have e)))
-    (λ _. either have (eqb what 1) _ Broken
-    (λ _. either have (leb (before + n) have) (write n) More (λ e. w (leb-true (before + n) have e)) (λ e. omega (arith, leb-false (before + n) have e)))
-    (λ _. tt))
-
-bounded_file : (file what n have : ℕ) → n ≤ most_bytes → Bounded have (of_file file what n have)
-bounded_file file what n have h =
-    either have (eqb file 730) _ _
-    (λ _. bounded_asked Read730 Write730 front_730 what n have (omega arith) (omega arith) (λ e. (e, h)) (λ e. (e, h)))
-    (λ _. either have (eqb file 70) _ Broken
-    (λ _. bounded_asked Read070 Write070 front_070 what n have (omega arith) (omega arith) (λ e. (e, h)) (λ e. (e, h)))
-    (λ _. tt))
+bounded_asks : (file : Result FileNumber NoCall) (asked : Result Asked NoCall) (n have : ℕ) → n ≤ most_bytes → Bounded have (asks file asked n have)
+bounded_asks (Ok file) (Ok asked) n have h =
+    either have (leb (front_of file asked + n) have) _ more
+    (λ e. (leb-true (front_of file asked + n) have e, h))
+    (λ e. omega (arith, leb-false (front_of file asked + n) have e, front_most file asked))
+bounded_asks (Ok file) (Err e) n have h = tt
+bounded_asks (Err e) asked n have h = tt
 
 pub bounded : (s : List ℕ) → Bounded (length s) (found s)
 unfolding found
 bounded s =
-    either (length s) (leb front (length s)) _ More
-    (λ _. either (length s) (leb (word s 8) most_bytes) _ Broken
-    (λ e. bounded_file (word s 0) (word s 4) (word s 8) (length s) (leb-true (word s 8) most_bytes e))
+    either (length s) (leb front (length s)) _ more
+    (λ _. either (length s) (leb (word s 8) most_bytes) _ broken
+    (λ e. bounded_asks (file_of (word s 0)) (asked_by (word s 4)) (word s 8) (length s) (leb-true (word s 8) most_bytes e))
     (λ _. tt))
     (λ e. omega (arith, leb-false front (length s) e))

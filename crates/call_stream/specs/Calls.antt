@@ -1,34 +1,58 @@
 -- Where a call ends. In front stand the file, what is asked (0 reads, 1 writes) and how many bytes are read or lent, as numbers of 32 bits. Assumes nothing.
-use Rattle.std.specs.Prelude.{ℕ, ◌+◌, cond, List, eqb, leb, length}
+use Rattle.std.specs.Prelude.{ℕ, ◌+◌, cond, List, eqb, leb, length, Option, Some, None, Result, Ok, Err}
 use Rattle.numbers.specs.Words.{word}
 use Rattle.call_lines.specs.Lines.{front, front_730, front_070, most_bytes}
-use Rattle.call_stream.specs.declared.calls.Found.{Found}
-use Rattle.call_stream.specs.declared.calls.Found.TheVariants.{Read730, Write730, Read070, Write070, More, Broken}
+use Rattle.call_stream.specs.declared.calls.FileNumber.{FileNumber}
+use Rattle.call_stream.specs.declared.calls.FileNumber.TheVariants.{File730, File070}
+use Rattle.call_stream.specs.declared.calls.Asked.{Asked}
+use Rattle.call_stream.specs.declared.calls.Asked.TheVariants.{Reads, Writes}
+use Rattle.call_stream.specs.declared.calls.Call.{Call}
+use Rattle.call_stream.specs.declared.calls.NoCall.{NoCall}
 
 -- in bytes
 abbrev pub longest_call : ℕ
 longest_call = 4_144
 
--- a whole call where its n bytes behind the numbers are there
-abbrev pub reached : (ℕ → Found) → ℕ → ℕ → ℕ → Found
-reached whole before n have = cond (leb (before + n) have) (whole n) More
-
--- what is asked of a file with so many bytes in front of the buffer that it writes to
-unfoldable pub asked : (ℕ → Found) → (ℕ → Found) → ℕ → ℕ → ℕ → ℕ → Found
-asked read write before what n have = cond (eqb what 0) (reached read front n have) (cond (eqb what 1) (reached write before n have) Broken)
-
-abbrev pub found_730 : ℕ → ℕ → ℕ → Found
-found_730 what n have = asked Read730 Write730 front_730 what n have
-
-abbrev pub found_070 : ℕ → ℕ → ℕ → Found
-found_070 what n have = asked Read070 Write070 front_070 what n have
-
-abbrev pub of_file : ℕ → ℕ → ℕ → ℕ → Found
-of_file file what n have = cond (eqb file 730) (found_730 what n have) (cond (eqb file 70) (found_070 what n have) Broken)
-
 -- the bytes gathered so far begin with a whole call, with a part of one, or with what is none
+abbrev pub Found : Type 0
+Found = Result (Option Call) NoCall
+
+abbrev pub whole : Call → Found
+whole c = Ok (Some c)
+
+abbrev pub more : Found
+more = Ok None
+
+abbrev pub broken : Found
+broken = Err (record {})
+
+abbrev pub file_of : ℕ → Result FileNumber NoCall
+file_of n = cond (eqb n 730) (Ok File730) (cond (eqb n 70) (Ok File070) (Err (record {})))
+
+abbrev pub asked_by : ℕ → Result Asked NoCall
+asked_by n = cond (eqb n 0) (Ok Reads) (cond (eqb n 1) (Ok Writes) (Err (record {})))
+
+-- how many bytes stand in front of those that are read or lent
+abbrev pub front_of : FileNumber → Asked → ℕ
+front_of file Reads = front
+front_of File730 Writes = front_730
+front_of File070 Writes = front_070
+
+abbrev pub call_length : Call → ℕ
+call_length c = front_of c.file c.asked + c.bytes
+
+-- a whole call where its bytes are there
+abbrev pub reached : Call → ℕ → Found
+reached c have = cond (leb (call_length c) have) (whole c) more
+
+-- what is asked of a file, with n bytes read or lent
+abbrev pub asks : Result FileNumber NoCall → Result Asked NoCall → ℕ → ℕ → Found
+asks (Ok file) (Ok asked) n have = reached (record { file = file; asked = asked; bytes = n }) have
+asks (Ok file) (Err e) n have = Err e
+asks (Err e) asked n have = Err e
+
 unfoldable pub found : List ℕ → Found
 found s =
     cond (leb front (length s))
-    (cond (leb (word s 8) most_bytes) (of_file (word s 0) (word s 4) (word s 8) (length s)) Broken)
-    More
+    (cond (leb (word s 8) most_bytes) (asks (file_of (word s 0)) (asked_by (word s 4)) (word s 8) (length s)) broken)
+    more

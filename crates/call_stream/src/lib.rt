@@ -1,20 +1,20 @@
-// A stream of calls of the readers and writers of records: where a call ends, and from its bytes to the line of its answer. A file's calls are its cases of `Found`.
+// A stream of calls of the readers and writers of records: where a call ends, and from its bytes to the line of its answer. A file's calls are its cases of `FileNumber`.
 #![tactic(auto)]
 
 ghost use Rattle.std.specs.Prelude.{◌≡◌, ◌+◌, ◌-◌, ◌≤◌, length};
 ghost use Rattle.std.proofs.lemmas.List.Edits.{sets};
 ghost use Rattle.decimals.specs.Put.{Put};
 ghost use Rattle.records.specs.Digits.{chars};
-ghost use Rattle.call_lines.specs.Lines.{longest_line};
-ghost use Rattle.call_stream.specs.Lines.{last_line};
+ghost use Rattle.call_lines.specs.Lines.{most_bytes, longest_line};
+ghost use Rattle.call_stream.specs.Calls.{call_length};
+ghost use Rattle.call_stream.specs.Lines.{line_by, left_by, last_line};
 ghost use Rattle.call_stream.specs.Takes.{Takes};
 
 mod calls;
 
-use crate::calls::{Found, find};
-use call_lines::FRONT;
-use call_lines::file_070::{FRONT_070, put_read_070, put_write_070};
-use call_lines::file_730::{FRONT_730, put_read_730, put_write_730};
+use crate::calls::{Asked, Call, FileNumber, NoCall, find};
+use call_lines::file_070::{put_read_070, put_write_070};
+use call_lines::file_730::{put_read_730, put_write_730};
 use decimals::put_text;
 
 // Room for any line.
@@ -28,6 +28,7 @@ pub struct Spans {
 }
 
 // Of bytes gathered so far: they begin with a whole call, whose line is written, or with a part of one, or with none, which the line says.
+// No Result: `Broken` is answered by a line as a call is, and its place is no error.
 #[derive(Clone, Copy)]
 pub enum Taken {
     Answered(Spans),
@@ -35,30 +36,30 @@ pub enum Taken {
     Broken(usize),
 }
 
+fn put_answer(call: Call, s: &mut [u8], out: &mut [u8], at: usize) -> usize
+    requires { (call_length call ≤ length s.old) × (call.bytes ≤ most_bytes) × (at + longest_line ≤ length out.old) }
+    ensures { Put out.old at (line_by call.file call.asked s.old call.bytes) out.new result × (result ≤ at + longest_line) × (s.new ≡ left_by call.file call.asked s.old call.bytes) }
+{
+    let n = call.bytes;
+    match (call.file, call.asked) {
+        (FileNumber::File730, Asked::Reads) => put_read_730(s, n, out, at),
+        (FileNumber::File730, Asked::Writes) => put_write_730(s, n, out, at),
+        (FileNumber::File070, Asked::Reads) => put_read_070(s, n, out, at),
+        (FileNumber::File070, Asked::Writes) => put_write_070(s, n, out, at),
+    }
+}
+
 pub fn take_call(s: &mut [u8], out: &mut [u8], at: usize) -> Taken
     requires { at + longest_line ≤ length out.old }
     ensures { Takes s.old out.old at s.new out.new result }
 {
-    let found = find(s);
-    match found {
-        Found::Read730(n) => Taken::Answered(Spans {
-            call: FRONT + n,
-            end: put_read_730(s, n, out, at),
+    match find(s) {
+        Ok(Some(call)) => Taken::Answered(Spans {
+            call: call.length(),
+            end: put_answer(call, s, out, at),
         }),
-        Found::Write730(n) => Taken::Answered(Spans {
-            call: FRONT_730 + n,
-            end: put_write_730(s, n, out, at),
-        }),
-        Found::Read070(n) => Taken::Answered(Spans {
-            call: FRONT + n,
-            end: put_read_070(s, n, out, at),
-        }),
-        Found::Write070(n) => Taken::Answered(Spans {
-            call: FRONT_070 + n,
-            end: put_write_070(s, n, out, at),
-        }),
-        Found::More => Taken::More,
-        Found::Broken => Taken::Broken(put_text(out, at, b"broken\n")),
+        Ok(None) => Taken::More,
+        Err(NoCall) => Taken::Broken(put_text(out, at, b"broken\n")),
     }
 }
 
@@ -67,13 +68,8 @@ pub fn to_front(s: &mut [u8], from: usize, to: usize) -> usize
     requires { (from ≤ to) × (to ≤ length s.old) }
     ensures { (result ≡ to - from) × (s.new ≡ sets s.old 0 (chars s.old from (to - from))) }
 {
-    let n = to - from;
-    let mut i: usize = 0;
-    while i < n {
-        s[i] = s[from + i];
-        i += 1;
-    }
-    n
+    s.copy_within(from..to, 0);
+    to - from
 }
 
 // The stream has ended, and these bytes are left.
@@ -81,7 +77,7 @@ pub fn finish(s: &[u8], out: &mut [u8], at: usize) -> usize
     requires { at + longest_line ≤ length out.old }
     ensures { Put out.old at (last_line s.now) out.new result × (result ≤ at + longest_line) }
 {
-    if s.len() == 0 {
+    if s.is_empty() {
         return at;
     }
     put_text(out, at, b"broken\n")

@@ -5,86 +5,73 @@
 ghost use Rattle.std.specs.Prelude.{◌≡◌, ◌+◌, ◌≤◌, ◌<◌, length, IfOk, OnErr};
 ghost use Rattle.call_lines.specs.Lines.{longest_line};
 ghost use Rattle.call_stream.specs.Calls.{longest_call};
+ghost use Rattle.record_calls.specs.Inside.{Inside};
 
 use call_stream::Taken;
 use std::io::{self, Read, Write};
+use std::ops::ControlFlow;
 
 // How many bytes the buffers of the input and of the lines have.
 const LARGE: usize = 65_536;
 
-// The bytes of the input from `from` to `have` are gathered and not yet taken; the lines that are gathered end at `end`. Where `goes_on` is
-// false, nothing more is to be read.
+// The bytes of the input from `from` to `have` are gathered and not yet taken; the lines that are gathered end at `end`.
 #[derive(Clone, Copy)]
 struct Gathered {
     from: usize,
     have: usize,
     end: usize,
-    goes_on: bool,
 }
 
-fn put_out<W: Write>(writer: &mut W, lines: &[u8]) -> io::Result<()> {
-    writer.write_all(lines)
-}
-
-// More of the input behind what is gathered. Room is left, so that nothing read means that the input has ended.
+// More of the input behind what is gathered, or the end of the lines where nothing more is to be read. Room is left, so that nothing read means
+// that the input has ended.
 fn gather<R: Read>(
     reader: &mut R,
     input: &mut [u8],
     have: usize,
     out: &mut [u8],
     at: usize,
-) -> io::Result<Gathered>
+) -> io::Result<ControlFlow<usize, Gathered>>
     requires { (have < length input.old) × (at + longest_line ≤ length out.old) }
-    ensures ok { IfOk result (λ r. (r.from ≤ r.have) × (r.have ≤ length input.new) × (r.end ≤ length out.new)) }
+    ensures ok { IfOk result (Inside (length input.new) (length out.new)) }
     ensures err { OnErr result (out.new ≡ out.old) }
 {
     let more = reader.read(&mut input[have..])?;
     if more == 0 {
-        return Ok(Gathered {
-            from: 0,
-            have,
-            end: call_stream::finish(&input[..have], out, at),
-            goes_on: false,
-        });
+        return Ok(ControlFlow::Break(call_stream::finish(
+            &input[..have],
+            out,
+            at,
+        )));
     }
-    Ok(Gathered {
+    Ok(ControlFlow::Continue(Gathered {
         from: 0,
         have: have + more,
         end: at,
-        goes_on: true,
-    })
+    }))
 }
 
 fn next_call<R: Read>(
     reader: &mut R,
     input: &mut [u8],
-    from: usize,
-    have: usize,
+    gathered: Gathered,
     out: &mut [u8],
-    at: usize,
-) -> io::Result<Gathered>
-    requires { (from ≤ have) × (have ≤ length input.old) × (longest_call ≤ length input.old) × (at + longest_line ≤ length out.old) }
-    ensures ok { IfOk result (λ r. (r.from ≤ r.have) × (r.have ≤ length input.new) × (r.end ≤ length out.new)) }
+) -> io::Result<ControlFlow<usize, Gathered>>
+    requires { (gathered.from ≤ gathered.have) × (gathered.have ≤ length input.old) × (longest_call ≤ length input.old) × (gathered.end + longest_line ≤ length out.old) }
+    ensures ok { IfOk result (Inside (length input.new) (length out.new)) }
     ensures err { OnErr result (out.new ≡ out.old) }
 {
-    let taken = call_stream::take_call(&mut input[from..have], out, at);
-    match taken {
-        Taken::Answered(spans) => Ok(Gathered {
+    let Gathered { from, have, end: at } = gathered;
+    match call_stream::take_call(&mut input[from..have], out, at) {
+        Taken::Answered(spans) => Ok(ControlFlow::Continue(Gathered {
             from: from + spans.call,
             have,
             end: spans.end,
-            goes_on: true,
-        }),
+        })),
         Taken::More => {
             let rest = call_stream::to_front(input, from, have);
             gather(reader, input, rest, out, at)
         }
-        Taken::Broken(end) => Ok(Gathered {
-            from,
-            have,
-            end,
-            goes_on: false,
-        }),
+        Taken::Broken(end) => Ok(ControlFlow::Break(end)),
     }
 }
 
@@ -96,7 +83,7 @@ fn room<W: Write>(writer: &mut W, out: &[u8], at: usize) -> io::Result<usize>
     if call_stream::LONGEST_LINE <= out.len() - at {
         return Ok(at);
     }
-    put_out(writer, &out[..at])?;
+    writer.write_all(&out[..at])?;
     Ok(0)
 }
 
@@ -112,26 +99,23 @@ fn answer_all<R: Read, W: Write>(
     ensures ok { IfOk result (λ n. n ≤ length out.new) }
     ensures err { OnErr result ((length input.new ≡ length input.old) × (length out.new ≡ length out.old)) }
 {
-    let mut from: usize = 0;
-    let mut have: usize = 0;
-    let mut end: usize = 0;
+    let mut gathered = Gathered {
+        from: 0,
+        have: 0,
+        end: 0,
+    };
     for _ in 0..u64::MAX {
-        let at = room(writer, out, end)?;
-        let next = match next_call(reader, input, from, have, out, at) {
-            Ok(next) => next,
+        gathered.end = room(writer, out, gathered.end)?;
+        match next_call(reader, input, gathered, out) {
+            Ok(ControlFlow::Continue(next)) => gathered = next,
+            Ok(ControlFlow::Break(end)) => return Ok(end),
             Err(error) => {
-                put_out(writer, &out[..at])?;
+                writer.write_all(&out[..gathered.end])?;
                 return Err(error);
             }
-        };
-        from = next.from;
-        have = next.have;
-        end = next.end;
-        if !next.goes_on {
-            return Ok(end);
         }
     }
-    Ok(end)
+    Ok(gathered.end)
 }
 
 fn main(rt: HostRuntime) -> io::Result<()> {
@@ -139,5 +123,5 @@ fn main(rt: HostRuntime) -> io::Result<()> {
     let mut out = [0u8; LARGE];
     let mut writer = rt.stdout();
     let n = answer_all(&mut rt.stdin(), &mut writer, &mut input, &mut out)?;
-    put_out(&mut writer, &out[..n])
+    writer.write_all(&out[..n])
 }

@@ -1,32 +1,20 @@
 -- The end of a record, character by character. Assumes nothing.
 use Prim.Native.Nat.{ℕ, suc, ◌+◌, ◌<◌, ◌≤◌}
-use mathlib.Core.Bool.{Bool, true, false, ◌&&◌}
+use mathlib.Core.Bool.{true, false}
 use mathlib.Core.List.{List, [], ◌∷◌}
-use mathlib.Core.Path.{◌≡◌, refl}
+use mathlib.Core.Path.{◌≡◌}
 use mathlib.Core.Logic.{⊎_elim}
 use native.Mathlib.Omega.{arith}
 use native.Mathlib.Nat.{not-suc-le-zero}
 use native.Mathlib.Numerals.{add-one}
-use borrow.Author.Tests.{eq-eqb, ne_eqb}
 use lib.ListN.{length, get_or, drop, drop_of_length-le, length-drop}
 use lib.Seq.{drop-cons}
-use lib.Dec.{eqb}
-use Rattle.records.proofs.Bools.{and_true}
-use Rattle.decimals.specs.Decimal.{line_feed}
-use Rattle.unit_lines.specs.Records.{crlf, carriage_return}
-use Rattle.unit_lines.specs.Machine.{end_in}
-use Rattle.decimals.proofs.Cases.{true_or_false}
+use Rattle.unit_lines.specs.Records.{crlf}
+use Rattle.std.specs.Prelude.{Some, None}
+use Rattle.unit_lines.specs.Machine.{end_in, end_from}
+use Rattle.decimals.proofs.Cases.{true_or_false, lt_or_ge}
+use borrow.Author.Tests.{lt-ltb, le-ltb}
 use Rattle.unit_lines.proofs.Run.{end_here, end_on}
-
-and_false : (b : Bool) → false ≡ (b && false)
-and_false true = refl
-and_false false = refl
-
-pub crlf_feed : (p c : ℕ) → c ≡ line_feed → eqb p carriage_return ≡ crlf p c
-crlf_feed p c e = rw (eq-eqb c line_feed e) (and_true (eqb p carriage_return))
-
-pub crlf_not : (p c : ℕ) → (c ≡ line_feed → ⊥) → false ≡ crlf p c
-crlf_not p c n = rw (ne_eqb c line_feed n) (and_false (eqb p carriage_return))
 
 module _ (p : ℕ) (s : List ℕ) (i : ℕ) (h : i < length s) where
   pub end_found : crlf p (get_or s i 0) ≡ true → end_in p (drop i s) ≡ 0
@@ -54,10 +42,40 @@ unfolding end_in
 end_first [] h = absurd (not-suc-le-zero h)
 end_first (c ∷ s) h = omega arith
 
+-- the place of an end, where there is one; else there is none in the whole rest
+module _ (p : ℕ) (s : List ℕ) (from : ℕ) where
+  pub some_end : (e : ℕ) → e < length s → e ≡ from + end_in p (drop from s) → Some e ≡ end_from p s from
+  some_end e h f =
+      let i : from + end_in p (drop from s) < length s = omega arith in
+      rw (lt-ltb (from + end_in p (drop from s)) (length s) i, f)
+
+  pub none_end : length s ≤ from + end_in p (drop from s) → None ≡ end_from p s from
+  none_end h = rw (le-ltb (from + end_in p (drop from s)) (length s) h)
+
+  pub end_is : (e : ℕ) → end_from p s from ≡ Some e → (e ≡ from + end_in p (drop from s)) × (e < length s)
+  end_is e f =
+      ⊎_elim
+      (λ (h : from + end_in p (drop from s) < length s).
+      let g = rw (lt-ltb (from + end_in p (drop from s)) (length s) h) at f in
+      let i : from + end_in p (drop from s) ≡ e = cc in
+      (omega arith, omega arith))
+      (λ (h : length s ≤ from + end_in p (drop from s)).
+      let g = rw (le-ltb (from + end_in p (drop from s)) (length s) h) at f in
+      cc)
+      (lt_or_ge (from + end_in p (drop from s)) (length s))
+
+  pub no_end : from ≤ length s → end_from p s from ≡ None → length s ≡ from + end_in p (drop from s)
+  no_end i f =
+      ⊎_elim
+      (λ (h : from + end_in p (drop from s) < length s).
+      let g = rw (lt-ltb (from + end_in p (drop from s)) (length s) h) at f in
+      cc)
+      (λ (h : length s ≤ from + end_in p (drop from s)). omega (arith, end_most p (drop from s), length-drop from s))
+      (lt_or_ge (from + end_in p (drop from s)) (length s))
+
 -- an end that was found lies behind its record's first character
-pub found_inside : (s : List ℕ) (i e : ℕ) → i ≤ length s → e ≡ i + end_in 0 (drop i s) → (e ≡ length s → ⊥) → (i < e) × (e < length s)
-found_inside s i e h f n =
+pub found_inside : (s : List ℕ) (i e : ℕ) → i ≤ length s → end_from 0 s i ≡ Some e → (i < e) × (e < length s)
+found_inside s i e h some =
+    let f = end_is 0 s i e some in
     let l = length-drop i s in
-    let m = end_most 0 (drop i s) in
-    let b : e < length s = omega arith in
-    (omega (arith, end_first (drop i s) (omega arith)), b)
+    (omega (arith, f.0, f.1, end_first (drop i s) (omega (arith, f.1))), f.1)

@@ -8,7 +8,7 @@ use lib.ListN.{length, take, drop, length-append, length-drop, drop_of_length-le
 use lib.Seq.{sets, length-take-le, take_all, drop-drop}
 use Rattle.decimals.specs.Put.{Put}
 use Rattle.unit_lines.specs.Records.{line_of}
-use Rattle.unit_lines.specs.Machine.{last_of, but_last, end_in, longest_line, Run, stopped, after, shrunk, keep, text_of}
+use Rattle.unit_lines.specs.Machine.{last_of, but_last, end_in, end_from, longest_line, Run, stopped, after, shrunk, keep, text_of}
 use Rattle.unit_lines.specs.Feeding.{feeding, Feeds, Moves}
 use Rattle.unit_lines.specs.declared.text.ListMachine.{ListMachine}
 use Rattle.unit_lines.specs.declared.machine.Fed.{Fed}
@@ -16,7 +16,8 @@ use Rattle.unit_lines.specs.declared.machine.Moved.{Moved}
 use Rattle.decimals.proofs.Cases.{lt_or_ge}
 use Rattle.decimals.proofs.Puts.{put_on}
 use Rattle.unit_lines.proofs.Run.{run_full, run_none_left, run_none, run_end}
-use Rattle.unit_lines.proofs.Ends.{end_most, end_first}
+use Rattle.std.specs.Prelude.{Some, None}
+use Rattle.unit_lines.proofs.Ends.{end_first, end_is, no_end}
 use Rattle.unit_lines.proofs.Shrunk.{shrunk_short, shrunk_long, kept_text, line_shrunk}
 use Rattle.unit_lines.proofs.Kept.{last_none, keep_more}
 use Rattle.unit_lines.proofs.Whole.{run_from, put_length}
@@ -58,36 +59,37 @@ some_kept t h =
     (λ (a : length t ≤ 66). rw (shrunk_short t a) h)
     (lt_or_ge 66 (length t))
 
-module _ (m : ListMachine) (input : List ℕ) (from : ℕ) (old : List ℕ) (at : ℕ) (e : ℕ) (inside : from ≤ length input) (room : longest_line ≤ length old - at)
-    (found : e ≡ from + end_in (last_of (text_of m)) (drop from input)) where
-  pub end_inside : (from ≤ e) × (e ≤ length input)
-  end_inside =
-      let a = end_most (last_of (text_of m)) (drop from input) in
-      let n = length-drop from input in
-      (omega arith, omega arith)
-
+module _ (m : ListMachine) (input : List ℕ) (from : ℕ) (old : List ℕ) (at : ℕ) (inside : from ≤ length input) (room : longest_line ≤ length old - at) where
   -- no record ends
-  pub feeds_text : (k : ListMachine) → e ≡ length input → k ≡ keep (text_of m ++ take (e - from) (drop from input)) → Feeds m input from old at old (record { machine = k; taken = e - from; written = 0 })
-  feeds_text k h g =
+  pub feeds_text : (k : ListMachine) → end_from (last_of (text_of m)) input from ≡ None → k ≡ keep (text_of m ++ take (length input - from) (drop from input))
+      → Feeds m input from old at old (record { machine = k; taken = length input - from; written = 0 })
+  feeds_text k none g =
       let s = drop from input in
       let n = length-drop from input in
-      let l : e - from ≡ length s = omega arith in
-      feeds m input from old at old (record { machine = k; taken = e - from; written = 0 }) (record { taken = length s; written = []; held = text_of m ++ s })
+      let l : length input - from ≡ length s = omega arith in
+      let e = no_end (last_of (text_of m)) input from inside none in
+      feeds m input from old at old (record { machine = k; taken = length input - from; written = 0 }) (record { taken = length s; written = []; held = text_of m ++ s })
       (run_none (length old - at) room (text_of m) s (omega arith))
       (rw (g, l, take_all (length s) s (omega arith)))
       refl
       (omega arith)
 
   -- a record ends: its line, and on behind it
-  module _ (before-end : e < length input) (begun : ListMachine) (kept : begun ≡ keep (text_of m ++ take (e - from) (drop from input))) where
+  module _ (e : ℕ) (some : end_from (last_of (text_of m)) input from ≡ Some e) (begun : ListMachine) (kept : begun ≡ keep (text_of m ++ take (e - from) (drop from input))) where
+    found : e ≡ from + end_in (last_of (text_of m)) (drop from input)
+    found = (end_is (last_of (text_of m)) input from e some).0
+
+    pub before_end : e < length input
+    before_end = (end_is (last_of (text_of m)) input from e some).1
+
     begun_text : text_of begun ≡ shrunk (text_of m ++ take (e - from) (drop from input))
     begun_text = ap text_of kept ∙ kept_text (text_of m ++ take (e - from) (drop from input))
 
     count : e - from ≡ end_in (last_of (text_of m)) (drop from input)
-    count = omega arith
+    count = omega (arith, found)
 
     found_inside : end_in (last_of (text_of m)) (drop from input) < length (drop from input)
-    found_inside = omega (arith, length-drop from input)
+    found_inside = omega (arith, length-drop from input, found, before_end)
 
     pub begun_some : 0 < length (text_of begun)
     begun_some = rw (begun_text, count) (some_kept (text_of m ++ take (end_in (last_of (text_of m)) (drop from input)) (drop from input)) (some_text (text_of m) (drop from input) found_inside))
@@ -99,8 +101,8 @@ module _ (m : ListMachine) (input : List ℕ) (from : ℕ) (old : List ℕ) (at 
         let k = end_in (last_of (text_of m)) s in
         let w = text_of m ++ take k s in
         let l : line_of (but_last (text_of begun)) ≡ line_of (but_last w) = rw (begun_text, count) (line_shrunk w) in
-        let b : suc k ≡ e + 1 - from = omega arith in
-        let j : from + suc k ≡ e + 1 = omega arith in
+        let b : suc k ≡ e + 1 - from = omega (arith, found) in
+        let j : from + suc k ≡ e + 1 = omega (arith, found) in
         let d : drop (suc k) s ≡ drop (e + 1) input = drop-drop (suc k) from input ∙ rw j in
         let r : length mid - end ≡ length old - at - length (line_of (but_last (text_of begun))) = omega (arith, put_length p, p.place) in
         run_end (length old - at) room (text_of m) s found_inside ∙ rw (← l, d, b, ← r)
@@ -114,7 +116,7 @@ module _ (m : ListMachine) (input : List ℕ) (from : ℕ) (old : List ℕ) (at 
         let r = run_from input (e + 1) mid end in
         let q : Put old at (l ++ r.written) new moved.end = put_on p (record { bytes = v.bytes; place = v.written }) in
         let a : k ≡ keep r.held = g ∙ (keep_more none [] _ n ∙ ap keep (sym v.held)) in
-        let t : moved.stop - from ≡ e + 1 - from + r.taken = omega (arith, v.taken) in
+        let t : moved.stop - from ≡ e + 1 - from + r.taken = omega (arith, v.taken, found) in
         let w : moved.end - at ≡ length (l ++ r.written) = omega (arith, q.place) in
         feeds m input from old at new (record { machine = k; taken = moved.stop - from; written = moved.end - at }) (after (e + 1 - from) l r)
         (feeding_on mid end p)

@@ -1,17 +1,15 @@
 -- What is kept of a text and of more characters behind it. Assumes nothing.
 use Prim.Native.Nat.{ℕ, ◌+◌, ◌-◌, ◌<◌, ◌≤◌}
-use mathlib.Core.List.{List, [], ◌∷◌, ◌++◌}
+use mathlib.Core.List.{List, [], ◌∷◌, ◌++◌, append_assoc}
 use mathlib.Core.Path.{◌≡◌, refl, sym, ap, ◌∙◌}
-use mathlib.Core.Logic.{⊎_elim}
 use native.Mathlib.Omega.{arith}
 use native.Mathlib.Nat.{not-suc-le-zero}
-use lib.ListN.{length, get_or, take, set, length-append, length-take}
-use lib.Seq.{sets, set-set, take-suc, take-append-add, length-take-le, take_all, take-take}
+use lib.ListN.{length, get_or, take, drop, set, length-append}
+use lib.Seq.{sets, sets-eq, drop-drop, set-set, take-suc, take-append-add, length-take-le}
 use Rattle.decimals.proofs.Puts.{sets_append}
-use Rattle.unit_lines.specs.Machine.{last_of, but_last, kept_most, shrunk, no_bytes, keep, text_of}
+use Rattle.unit_lines.specs.Machine.{last_of, kept_most, shrunk, no_bytes, keep, text_of}
 use Rattle.unit_lines.specs.declared.text.ListMachine.{ListMachine}
 use Rattle.unit_lines.proofs.Shrunk.{shrunk_short, shrunk_long, length_shrunk, shrunk_more, kept_text, last_append}
-use Rattle.decimals.proofs.Cases.{lt_or_ge}
 
 pub keep_short : (t : List ℕ) → length t ≤ kept_most → keep t ≡ record { bytes = sets no_bytes 0 t; len = length t }
 unfolding keep
@@ -29,6 +27,14 @@ last_none (c ∷ t) h = absurd (let y : ⊥ = omega arith in y)
 last_behind : (t u : List ℕ) → 0 < length u → last_of (t ++ u) ≡ last_of u
 last_behind t [] h = absurd (not-suc-le-zero h)
 last_behind t (c ∷ u) h = last_append t c u
+
+-- a part of the bytes written over by the first n characters of a text
+pub part_put : (l u new : List ℕ) (at n : ℕ) → at + n ≤ length l → n ≤ length u → new ≡ take n u → take at l ++ (new ++ drop (at + n - at) (drop at l)) ≡ sets l at (take n u)
+part_put l u new at n h i e =
+    let k : length (take n u) ≡ n = length-take-le n u i in
+    let d : at + n - at ≡ n = omega arith in
+    let j : at + length (take n u) ≤ length l = omega arith in
+    rw (e, d, sets-eq (take n u) l at j, k, drop-drop n at l, append_assoc (take at l) (take n u) (drop (at + n) l))
 
 -- a machine that holds nothing but its text
 module _ (m : ListMachine) (e : m ≡ keep (text_of m)) where
@@ -80,18 +86,3 @@ is_kept m t e = e ∙ sym (rw (e, kept_text t) (keep_shrunk (shrunk t) t (shrunk
 
 pub keep_more : (m : ListMachine) (t u : List ℕ) → m ≡ keep t → keep (text_of m ++ u) ≡ keep (t ++ u)
 keep_more m t u e = rw (e, kept_text t) (keep_shrunk (shrunk t ++ u) (t ++ u) (shrunk_more t u))
-
-pub take_text : (m : ListMachine) (n : ℕ) → n ≡ length (text_of m) → take n m.bytes ≡ text_of m
-take_text m n e =
-    let f = length-take m.len m.bytes in
-    ⊎_elim
-    (λ (h : m.len < length m.bytes). let g : n ≡ m.len = omega arith in rw g)
-    (λ (h : length m.bytes ≤ m.len). take_all n m.bytes (omega arith) ∙ sym (take_all m.len m.bytes h))
-    (lt_or_ge m.len (length m.bytes))
-
-pub text_inside : (m : ListMachine) (n : ℕ) → n ≡ length (text_of m) → n ≤ length m.bytes
-text_inside m n e = omega (arith, length-take m.len m.bytes)
-
--- all characters of the text but the last
-pub take_but_last : (m : ListMachine) (n : ℕ) → n ≡ length (text_of m) → take (n - 1) m.bytes ≡ but_last (text_of m)
-take_but_last m n e = sym (rw (← e, ← take_text m n e) (take-take (n - 1) n m.bytes (omega arith)))

@@ -8,12 +8,10 @@ use lib.ListN.{length, take, drop}
 use lib.Seq.{sets, sets-eq, take_at, drop_at, length-take-le}
 use Rattle.unit_lines.specs.Records.{records_of, line_of, lines_of, unless_empty, unit_list}
 use Rattle.unit_lines.specs.Machine.{go_on, shrunk, keep, text_of}
-use Rattle.unit_lines.specs.Feeding.{feeding, Feeds, Finishes}
+use Rattle.unit_lines.specs.Feeding.{feeding, Feeds, Finished, no_room, Finishes}
 use Rattle.unit_lines.specs.Listing.{Lists, Rests, fetched, written_by, Listed, start, fed, piece}
 use Rattle.unit_lines.specs.declared.text.ListMachine.{ListMachine}
 use Rattle.unit_lines.specs.declared.machine.Fed.{Fed}
-use Rattle.unit_lines.specs.declared.machine.Finished.{Finished}
-use Rattle.unit_lines.specs.declared.machine.Finished.TheVariants.{NoRoom}
 use Rattle.unit_lines.specs.declared.listing.Piece.{Piece}
 use Rattle.unit_lines.proofs.Finishing.{finished}
 use Rattle.unit_lines.proofs.GoOn.{go_append, go_split}
@@ -81,7 +79,7 @@ complete {input} {output} {m} l =
     rw (k.text, k.written, last_kept t, ← go_split input, lines_append (go_on [] input).ended (unless_empty t))
 
 -- `finish`, unless it had no room, completes the unit list of all that was taken
-pub listed : {input output : List ℕ} {m : ListMachine} → Listed input output m → (old : List ℕ) (at : ℕ) (new : List ℕ) (r : Finished) → Finishes m old at new r → (r ≡ NoRoom → ⊥)
+pub listed : {input output : List ℕ} {m : ListMachine} → Listed input output m → (old : List ℕ) (at : ℕ) (new : List ℕ) (r : Finished) → Finishes m old at new r → (r ≡ no_room → ⊥)
     → output ++ fetched new at (written_by r) ≡ unit_list input
 listed {input} {output} {m} l old at new r p n =
     let w = lines_of (unless_empty (text_of m)) in

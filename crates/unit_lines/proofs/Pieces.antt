@@ -13,11 +13,10 @@ use Rattle.decimals.proofs.Decimal.{field_most}
 use Rattle.unit_line.proofs.Pieces.{length_refused}
 use Rattle.unit_lines.specs.Records.{crlf, line_of, lines_of, unless_empty}
 use Rattle.unit_lines.specs.Machine.{last_of, but_last, go_on, longest_line, run, kept_most, keep, text_of}
-use Rattle.unit_lines.specs.Feeding.{Feeds, Finishes}
+use Rattle.unit_lines.specs.Feeding.{Feeds, Finished, Finishes}
 use Rattle.unit_lines.specs.Listing.{room_for, Lists, Rests, written_by}
 use Rattle.unit_lines.specs.declared.text.ListMachine.{ListMachine}
 use Rattle.unit_lines.specs.declared.machine.Fed.{Fed}
-use Rattle.unit_lines.specs.declared.machine.Finished.{Finished}
 use Rattle.unit_lines.proofs.Finishing.{finished, room_finishes}
 use Rattle.unit_lines.proofs.Longest.{longest}
 use Rattle.unit_lines.proofs.Run.{run_none_left, run_ends, run_more, run_taken}

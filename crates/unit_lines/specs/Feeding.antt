@@ -1,12 +1,11 @@
 -- What feeding and finishing promise: the whole result, and the whole final content of the lent buffer. Assumes nothing.
-use Rattle.std.specs.Prelude.{ℕ, ◌+◌, ◌-◌, ◌≤◌, cond, List, [], ◌∷◌, ◌≡◌, length, take, drop, ltb}
+use Rattle.std.specs.Prelude.{ℕ, ◌+◌, ◌-◌, ◌≤◌, cond, List, [], ◌∷◌, ◌≡◌, length, take, drop, ltb, Option, Some, None, Result, Ok, Err}
 use Rattle.std.proofs.lemmas.List.Edits.{sets}
 use Rattle.unit_lines.specs.Records.{line_of}
 use Rattle.unit_lines.specs.Machine.{longest_line, Run, run, last_line, keep, text_of}
 use Rattle.unit_lines.specs.declared.text.ListMachine.{ListMachine}
 use Rattle.unit_lines.specs.declared.machine.Fed.{Fed}
-use Rattle.unit_lines.specs.declared.machine.Finished.{Finished}
-use Rattle.unit_lines.specs.declared.machine.Finished.TheVariants.{Line, NoRecord, NoRoom}
+use Rattle.unit_lines.specs.declared.machine.NoRoom.{NoRoom}
 use Rattle.unit_lines.specs.declared.machine.Moved.{Moved}
 
 -- the machine fed with the input from a place on, into the buffer from a place on
@@ -18,10 +17,17 @@ pub record Feeds (m : ListMachine) (input : List ℕ) (from : ℕ) (old : List �
   pub bytes : new ≡ sets old at (feeding m input from old at).written
   pub room : r.written ≤ length old - at
 
--- what finishing answers, by the room and the text held
+-- what finishing answers: how many characters the last line has, if there is one, or that there is no room for it
+abbrev pub Finished : Type 0
+Finished = Result (Option ℕ) NoRoom
+
+abbrev pub no_room : Finished
+no_room = Err (record {})
+
+-- by the room and the text held
 unfoldable pub finishing : ℕ → List ℕ → Finished
-finishing room [] = NoRecord
-finishing room (c ∷ t) = cond (ltb room longest_line) NoRoom (Line (length (line_of (c ∷ t))))
+finishing room [] = Ok None
+finishing room (c ∷ t) = cond (ltb room longest_line) no_room (Ok (Some (length (line_of (c ∷ t)))))
 
 pub record Finishes (m : ListMachine) (old : List ℕ) (at : ℕ) (new : List ℕ) (r : Finished) : Type 0 where
   pub result : r ≡ finishing (length old - at) (text_of m)

@@ -1,13 +1,12 @@
 -- What the program's two calls promise: the lines of the whole piece, and the line of a last record; and what a caller fetches. Assumes nothing.
-use Rattle.std.specs.Prelude.{ℕ, ◌+◌, ◌*◌, ◌≤◌, List, [], ◌++◌, ◌≡◌, length, take, drop}
+use Rattle.std.specs.Prelude.{ℕ, ◌+◌, ◌*◌, ◌≤◌, List, [], ◌++◌, ◌≡◌, length, take, drop, Ok, Err}
+use Rattle.std.specs.Option.{unwrap_or}
 use Rattle.std.proofs.lemmas.List.Edits.{sets}
 use Rattle.unit_lines.specs.Records.{lines_of, unless_empty}
 use Rattle.unit_lines.specs.Machine.{longest_line, kept_most, go_on, keep, text_of}
-use Rattle.unit_lines.specs.Feeding.{Feeds}
+use Rattle.unit_lines.specs.Feeding.{Feeds, Finished}
 use Rattle.unit_lines.specs.declared.text.ListMachine.{ListMachine}
 use Rattle.unit_lines.specs.declared.machine.Fed.{Fed}
-use Rattle.unit_lines.specs.declared.machine.Finished.{Finished}
-use Rattle.unit_lines.specs.declared.machine.Finished.TheVariants.{Line, NoRecord, NoRoom}
 use Rattle.unit_lines.specs.declared.listing.Piece.{Piece}
 
 -- room for the lines of a piece of that length: six characters for each character held or in the piece (a CR LF alone has a line of twelve), and
@@ -31,9 +30,8 @@ fetched new at n = take n (drop at new)
 
 -- how many characters finishing wrote
 abbrev pub written_by : Finished → ℕ
-written_by (Line n) = n
-written_by NoRecord = 0
-written_by NoRoom = 0
+written_by (Ok last) = unwrap_or last 0
+written_by (Err e) = 0
 
 -- A machine after any number of calls, by what they promise: the input taken so far and the lines fetched. `new_machine` comes first; then `feed`,
 -- from any place of a piece into any buffer (a caller hands over again what a call left, or not: what was taken, in order, is the input), or

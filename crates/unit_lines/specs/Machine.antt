@@ -1,5 +1,5 @@
 -- The list machine: the text of the record that has begun, what feeding and finishing do with it, and what is kept of it. Assumes nothing.
-use Rattle.std.specs.Prelude.{ℕ, suc, ◌+◌, ◌-◌, cond, List, [], ◌∷◌, ◌++◌, length, get_or, take, replicate, ltb, leb}
+use Rattle.std.specs.Prelude.{ℕ, suc, ◌+◌, ◌-◌, cond, List, [], ◌∷◌, ◌++◌, length, get_or, take, drop, replicate, ltb, leb, Option, Some, None}
 use Rattle.std.proofs.lemmas.List.Edits.{sets}
 use Rattle.unit_lines.specs.Records.{crlf, Split, ending, line_of, lines_of, unless_empty}
 use Rattle.unit_lines.specs.declared.text.ListMachine.{ListMachine}
@@ -19,6 +19,10 @@ go_on t (c ∷ s) = cond (crlf (last_of t) c) (ending (but_last t) (go_on [] s))
 unfoldable pub end_in : ℕ → List ℕ → ℕ
 end_in p [] = 0
 end_in p (c ∷ s) = cond (crlf p c) 0 (suc (end_in c s))
+
+-- the place of that LF in an input, looked for from a place on
+abbrev pub end_from : ℕ → List ℕ → ℕ → Option ℕ
+end_from p s from = cond (ltb (from + end_in p (drop from s)) (length s)) (Some (from + end_in p (drop from s))) None
 
 -- 6 and 8 digits, 9 digits with a point and three decimals, 6 digits, three spaces and the line feed
 abbrev pub longest_line : ℕ

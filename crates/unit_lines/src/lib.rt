@@ -6,5 +6,5 @@ mod machine;
 mod text;
 
 pub use listing::{Piece, list_piece, list_rest};
-pub use machine::{Fed, Finished, LONGEST_LINE, feed, finish, new_machine};
+pub use machine::{Fed, LONGEST_LINE, NoRoom, feed, finish, new_machine};
 pub use text::ListMachine;

@@ -3,7 +3,7 @@ ghost use Rattle.std.specs.Prelude.{◌≤◌, length};
 ghost use Rattle.unit_lines.specs.Machine.{longest_line};
 ghost use Rattle.unit_lines.specs.Listing.{room_for, Lists, Rests};
 
-use crate::machine::{Finished, feed, finish};
+use crate::machine::{feed, finish};
 use crate::text::ListMachine;
 
 // The machine after a piece, and how many characters of lines stand in front in the buffer.
@@ -18,9 +18,8 @@ pub fn list_piece(m: ListMachine, input: &[u8], out: &mut [u8]) -> Piece
     ensures { Lists m input.now out.old out.new result }
 {
     let fed = feed(m, input, 0, out, 0);
-    let machine = fed.machine;
     Piece {
-        machine,
+        machine: fed.machine,
         written: fed.written,
     }
 }
@@ -29,10 +28,5 @@ pub fn list_rest(m: ListMachine, out: &mut [u8]) -> usize
     requires { longest_line ≤ length out.old }
     ensures { Rests m out.old out.new result }
 {
-    let last = finish(m, out, 0);
-    match last {
-        Finished::Line(n) => n,
-        Finished::NoRecord => 0,
-        Finished::NoRoom => 0,
-    }
+    finish(m, out, 0).unwrap().unwrap_or(0)
 }

@@ -2,10 +2,10 @@
 ghost use Rattle.std.specs.Prelude.{◌≡◌, [], ◌+◌, ◌-◌, ◌≤◌, ◌<◌, length, drop, leb};
 ghost use Rattle.decimals.specs.Put.{Put};
 ghost use Rattle.unit_lines.specs.Records.{crlf, line_of};
-ghost use Rattle.unit_lines.specs.Machine.{longest_line, but_last, end_in, run, keep, text_of};
+ghost use Rattle.unit_lines.specs.Machine.{longest_line, but_last, end_from, run, keep, text_of};
 ghost use Rattle.unit_lines.specs.Feeding.{Feeds, Finishes, Moves};
 
-use crate::text::{ListMachine, grown, last_of, length_of, no_text};
+use crate::text::ListMachine;
 use decimals::LINE_FEED;
 use unit_line::put_line;
 
@@ -17,37 +17,29 @@ pub const LONGEST_LINE: usize = 37;
 fn ends(last: u8, c: u8) -> bool
     ensures { result ≡ crlf last c }
 {
-    if c == LINE_FEED {
-        return last == CARRIAGE_RETURN;
-    }
-    false
+    last == CARRIAGE_RETURN && c == LINE_FEED
 }
 
-// The place of the LF that ends the record, or the input's length. `before` is the character before the place.
-fn find_end(input: &[u8], from: usize, before: u8) -> usize
+// The place of the LF that ends the record. `before` is the character before the place from which it is looked for.
+fn find_end(input: &[u8], from: usize, before: u8) -> Option<usize>
     requires { from ≤ length input.now }
-    ensures { result ≡ from + end_in before (drop from input.now) }
+    ensures { result ≡ end_from before input.now from }
 {
     let mut last = before;
-    let mut i = from;
-    while i < input.len() {
+    for i in from..input.len() {
         let c = input[i];
         if ends(last, c) {
-            return i;
+            return Some(i);
         }
         last = c;
-        i += 1;
     }
-    i
+    None
 }
 
 fn has_room(room: usize, at: usize) -> bool
     ensures { result ≡ leb longest_line (room - at) }
 {
-    if room < at {
-        return false;
-    }
-    LONGEST_LINE <= room - at
+    LONGEST_LINE <= room.saturating_sub(at)
 }
 
 fn list_text(text: &[u8], out: &mut [u8], at: usize) -> usize
@@ -73,10 +65,13 @@ fn list_whole(input: &[u8], from: usize, out: &mut [u8], at: usize) -> Moved
     let mut next = from;
     let mut end = at;
     while has_room(out.len(), end) {
-        let e = find_end(input, next, 0);
-        if e == input.len() {
-            return Moved { next, stop: e, end };
-        }
+        let Some(e) = find_end(input, next, 0) else {
+            return Moved {
+                next,
+                stop: input.len(),
+                end,
+            };
+        };
         end = list_text(&input[next..e - 1], out, end);
         next = e + 1;
     }
@@ -92,9 +87,8 @@ fn list_begun(m: ListMachine, out: &mut [u8], at: usize) -> usize
     requires { (0 < length (text_of m)) × (at + longest_line ≤ length out.old) }
     ensures { Put out.old at (line_of (but_last (text_of m))) out.new result }
 {
-    let len = length_of(m);
-    let bytes = m.bytes;
-    list_text(&bytes[..len - 1], out, at)
+    let text = m.text();
+    list_text(&text[..text.len() - 1], out, at)
 }
 
 #[derive(Clone, Copy)]
@@ -107,7 +101,7 @@ pub struct Fed {
 pub fn new_machine() -> ListMachine
     ensures { result ≡ keep [] }
 {
-    no_text()
+    ListMachine::empty()
 }
 
 // The record that has begun, and then those that lie in the input whole.
@@ -115,23 +109,19 @@ fn feed_on(m: ListMachine, input: &[u8], from: usize, out: &mut [u8], at: usize)
     requires { (from ≤ length input.now) × (longest_line ≤ length out.old - at) }
     ensures { Feeds m input.now from out.old at out.new result }
 {
-    let e = find_end(input, from, last_of(m));
-    let begun = grown(m, &input[from..e]);
-    if e == input.len() {
+    let Some(e) = find_end(input, from, m.last()) else {
         return Fed {
-            machine: begun,
-            taken: e - from,
+            machine: m.grown(&input[from..]),
+            taken: input.len() - from,
             written: 0,
         };
-    }
-    let end = list_begun(begun, out, at);
-    let moved = list_whole(input, e + 1, out, end);
-    let next = moved.next;
-    let stop = moved.stop;
+    };
+    let first = list_begun(m.grown(&input[from..e]), out, at);
+    let Moved { next, stop, end } = list_whole(input, e + 1, out, first);
     Fed {
-        machine: grown(no_text(), &input[next..stop]),
+        machine: ListMachine::empty().grown(&input[next..stop]),
         taken: stop - from,
-        written: moved.end - at,
+        written: end - at,
     }
 }
 
@@ -140,38 +130,30 @@ fn feed_on(m: ListMachine, input: &[u8], from: usize, out: &mut [u8], at: usize)
 pub fn feed(m: ListMachine, input: &[u8], from: usize, out: &mut [u8], at: usize) -> Fed
     ensures { Feeds m input.now from out.old at out.new result }
 {
-    if from <= input.len() {
-        if has_room(out.len(), at) {
-            return feed_on(m, input, from, out, at);
-        }
+    if from <= input.len() && has_room(out.len(), at) {
+        return feed_on(m, input, from, out, at);
     }
     Fed {
-        machine: grown(m, &input[..0]),
+        machine: m.grown(&[]),
         taken: 0,
         written: 0,
     }
 }
 
-// The line of a last record without CR LF has so many characters, or there is none, or no room for a longest line.
-#[derive(Clone, Copy)]
-pub enum Finished {
-    Line(usize),
-    NoRecord,
-    NoRoom,
-}
+// For a longest line.
+#[derive(Clone, Copy, PartialEq, Eq)]
+pub struct NoRoom;
 
-pub fn finish(m: ListMachine, out: &mut [u8], at: usize) -> Finished
+// How many characters the line of a last record without CR LF has, if there is one.
+pub fn finish(m: ListMachine, out: &mut [u8], at: usize) -> Result<Option<usize>, NoRoom>
     ensures { Finishes m out.old at out.new result }
 {
-    let len = length_of(m);
-    if len == 0 {
-        return Finished::NoRecord;
+    let text = m.text();
+    if text.is_empty() {
+        return Ok(None);
     }
-    if has_room(out.len(), at) {
-        let bytes = m.bytes;
-        let end = list_text(&bytes[..len], out, at);
-        let written = end - at;
-        return Finished::Line(written);
+    if !has_room(out.len(), at) {
+        return Err(NoRoom);
     }
-    Finished::NoRoom
+    Ok(Some(list_text(text, out, at) - at))
 }

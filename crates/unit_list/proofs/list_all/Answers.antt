@@ -5,4 +5,4 @@ pub loop-init : goal.loop-init
 loop-init g c = heard_nothing c.new_machine-machine.ensures
 
 pub loop-preserved : goal.loop-preserved
-loop-preserved g c = turn_heard c.loop.invariant c.in_ok-turn.ensures.ok
+loop-preserved g c = turn_heard c.loop.invariant c.in_ok-piece.ensures.ok c.in-Some.is

@@ -1,7 +1,6 @@
 -- The number, the bytes and the line feed, one behind the other. Assumes nothing.
 use mathlib.Core.Path.{refl}
 use native.Mathlib.Omega.{arith}
-use lib.ListN.{length-set}
 use Rattle.decimals.specs.Decimal.{space}
 use Rattle.decimals.proofs.Decimal.{field_64}
 use Rattle.decimals.proofs.Puts.{put_on}
@@ -9,24 +8,9 @@ use Rattle.call_lines.specs.Lines.{write_line}
 use Rattle.call_lines.proofs.Lining.{length_hex}
 use Rattle.call_lines.proofs.lines.put_written.Goals as goal
 
-pub put_field-bytes-requires : goal.put_field-bytes-requires
-put_field-bytes-requires c = omega (arith, field_64 c.args.number space (omega arith))
-
-pub put_hex-end-requires : goal.put_hex-end-requires
-put_hex-end-requires c = omega (arith, field_64 c.args.number space (omega arith))
-
-pub bounds-out-end : goal.bounds-out-end
-bounds-out-end c = omega (arith, field_64 c.args.number space (omega arith), length_hex c.args.buffer.now)
-
-pub overflow_add-result : goal.overflow_add-result
-overflow_add-result c = omega (arith, field_64 c.args.number space (omega arith), length_hex c.args.buffer.now)
-
-pub shape_of-out : goal.shape_of-out
-shape_of-out c = simp length-set (omega arith)
-
 pub returns : goal.returns
 unfolding write_line
 returns c = (
-  put_on c.put_field-bytes.ensures (put_on c.put_hex-end.ensures (record { bytes = refl; place = refl })),
-  omega (arith, c.put_field-bytes.ensures.place, c.put_hex-end.ensures.place, field_64 c.args.number space (omega arith), length_hex c.args.buffer.now),
+  rw (← c.number_of.ensures) (put_on c.put_field-bytes.ensures (put_on c.put_hex-end.ensures (record { bytes = refl; place = refl }))),
+  omega (arith, c.put_field-bytes.ensures.place, c.put_hex-end.ensures.place, field_64 c.number_of.result space (omega arith), length_hex c.args.buffer.now),
 )

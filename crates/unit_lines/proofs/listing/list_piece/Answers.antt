@@ -3,7 +3,6 @@ use borrow.Author.Rules.{rules}
 use mathlib.Core.Path.{◌≡◌}
 use lib.ListN.{length, length-take}
 use Rattle.unit_lines.specs.Feeding.{Feeds}
-use Rattle.unit_lines.proofs.Callers.{fed_length}
 use Rattle.unit_lines.proofs.Pieces.{lists}
 use Rattle.unit_lines.proofs.listing.list_piece.Goals as goal
 
@@ -13,6 +12,3 @@ returns c =
     let e : length m.bytes ≡ 66 = search rules in
     let p : Feeds m c.args.input.now 0 c.args.out.now 0 c.feed-fed.new.out c.feed-fed.result = c.feed-fed.ensures in
     lists (omega (arith, length-take m.len m.bytes)) c.requires p
-
-pub shape_of-out : goal.shape_of-out
-shape_of-out c = fed_length c.feed-fed.ensures

@@ -1,32 +1,18 @@
-use Prim.Native.Nat.{◌-◌, ◌≤◌}
-use mathlib.Core.Path.{sym, ap, ◌∙◌}
+use mathlib.Core.Path.{sym, ◌∙◌}
 use native.Mathlib.Omega.{arith}
-use borrow.Author.Tests.{leb-true, leb-false}
-use lib.ListN.{length}
-use Rattle.unit_lines.specs.Machine.{longest_line}
-use Rattle.unit_lines.proofs.Kept.{text_inside, take_text}
+use borrow.Author.Tests.{leb-true, leb-false, eqb-true, eqb-false}
 use Rattle.unit_lines.proofs.Finishing.{finish_none, finish_full, finish_line}
 use Rattle.unit_lines.proofs.machine.finish.Goals as goal
 
-pub returns-then-len-eq0 : goal.returns-then-len-eq0
-returns-then-len-eq0 c = finish_none c.args.m _ _ (sym c.length_of-len.ensures ∙ c.if-len-eq0.true)
+pub returns-then-is_empty : goal.returns-then-is_empty
+returns-then-is_empty c = finish_none c.args.m _ _ (rw c.text-text.ensures at (eqb-true _ _ (sym c.is_empty.ensures ∙ c.if-is_empty.true)))
 
-pub slice_bounds-bytes-end : goal.slice_bounds-bytes-end
-slice_bounds-bytes-end c = text_inside c.args.m _ c.length_of-len.ensures
-
-pub slice_bounds-list_text-end : goal.slice_bounds-list_text-end
-slice_bounds-list_text-end c = c.length_of-len.ensures ∙ ap length (sym (take_text c.args.m _ c.length_of-len.ensures))
-
-pub list_text-end-requires : goal.list_text-end-requires
-list_text-end-requires c =
-    let r : longest_line ≤ length c.args.out.now - c.args.at = leb-true _ _ (sym c.has_room.ensures ∙ c.if-has_room.true) in
-    omega arith
-
-pub returns-then-has_room : goal.returns-then-has_room
-returns-then-has_room c =
-    let r : longest_line ≤ length c.args.out.now - c.args.at = leb-true _ _ (sym c.has_room.ensures ∙ c.if-has_room.true) in
-    let p = rw (take_text c.args.m _ c.length_of-len.ensures) at c.list_text-end.ensures in
-    finish_line c.args.m _ _ _ _ r (omega (arith, c.length_of-len.ensures, c.if-len-eq0.false)) p
+pub returns-then-not-has_room : goal.returns-then-not-has_room
+returns-then-not-has_room c =
+    let some = rw c.text-text.ensures at (eqb-false _ _ (sym c.is_empty.ensures ∙ c.if-is_empty.false)) in
+    finish_full c.args.m _ _ (leb-false _ _ (sym c.has_room.ensures ∙ c.if-not-has_room.true)) (omega arith)
 
 pub returns : goal.returns
-returns c = finish_full c.args.m _ _ (leb-false _ _ (sym c.has_room.ensures ∙ c.if-has_room.false)) (omega (arith, c.length_of-len.ensures, c.if-len-eq0.false))
+returns c =
+    let some = rw c.text-text.ensures at (eqb-false _ _ (sym c.is_empty.ensures ∙ c.if-is_empty.false)) in
+    finish_line c.args.m _ _ _ _ (leb-true _ _ (sym c.has_room.ensures ∙ c.if-not-has_room.false)) (omega arith) (rw c.text-text.ensures at c.list_text.ensures)

@@ -1,7 +1,0 @@
-use mathlib.Core.Path.{refl}
-use Rattle.unit_lines.specs.Machine.{keep, shrunk}
-use Rattle.unit_lines.proofs.text.no_text.Goals as goal
-
-pub returns : goal.returns
-unfolding keep shrunk
-returns c = refl
