@@ -8,7 +8,7 @@ use Rattle.guideline.specs.Rows.{keyed}
 use Rattle.guideline.specs.Forms.{when, ask}
 use Rattle.guideline.specs.Steps.{by_prk}
 use Rattle.cells.specs.Lents.{shown}
-use Rattle.selection.specs.Chosen.{chosen641}
+use Rattle.guideline.specs.Results.{answered}
 use Rattle.selection.proofs.Given.{prk_given}
 use Rattle.selection.proofs.level.by_prk.Goals as goal
 
@@ -26,4 +26,4 @@ pub returns : goal.returns
 returns c =
     let a = c.args in
     let t = among (keyed T641 a.gpk) (shown T641 a.t641.now a.v) in
-    c.of_prk.ensures (datum a.d) ∙ sym (ap chosen641 (prk_given t (datum a.d) (sym c.any.ensures ∙ c.if-not-any.false) c.in-Some.is))
+    c.of_prk.ensures (datum a.d) ∙ sym (ap answered (prk_given t (datum a.d) (sym c.any.ensures ∙ c.if-not-any.false) c.in-Some.is))

@@ -13,18 +13,18 @@ pub returns-in-Nothing : goal.returns-in-Nothing
 unfolding route_kept
 returns-in-Nothing c =
     let a = c.args in
-    rw (found_642 (among (keyed T642 a.basis) (shown T642 a.t642.now a.v) (test642 (Route a.s))) c.ask-found.ensures c.in-Nothing.is) (rw c.no_route.ensures at c.ask.ensures)
+    rw (found_642 (among (keyed T642 a.basis) (shown T642 a.t642.now a.v) (test642 (Route a.s))) c.ask.ensures c.in-Nothing.is) (rw c.no_route.ensures at c.ask.ensures)
 
 pub returns-in-One : goal.returns-in-One
 unfolding route_kept
 returns-in-One c =
     let a = c.args in
-    let found = found_642 (among (keyed T642 a.basis) (shown T642 a.t642.now a.v) (test642 (Route a.s))) c.ask-found.ensures c.in-One.is in
+    let found = found_642 (among (keyed T642 a.basis) (shown T642 a.t642.now a.v) (test642 (Route a.s))) c.ask.ensures c.in-One.is in
     rw (found, found)
 
 pub returns-in-Many : goal.returns-in-Many
 unfolding route_kept
 returns-in-Many c =
     let a = c.args in
-    let found = found_642 (among (keyed T642 a.basis) (shown T642 a.t642.now a.v) (test642 (Route a.s))) c.ask-found.ensures c.in-Many.is in
+    let found = found_642 (among (keyed T642 a.basis) (shown T642 a.t642.now a.v) (test642 (Route a.s))) c.ask.ensures c.in-Many.is in
     rw (found, found)
