@@ -1,3 +1,4 @@
+pub mod Asked
 pub mod Given
 pub mod Kept
 pub mod Linked
