@@ -1,9 +1,9 @@
 -- Each field is the number that the definition reads. Assumes nothing.
 use native.Mathlib.Omega.{arith}
-use Rattle.cells.proofs.t730.row.Goals as goal
+use Rattle.cells.proofs.t070.Row070TableRow.row.Goals as goal
 
 pub returns : goal.returns
-returns c = rw (← c.cell-5.ensures, ← c.cell-4.ensures, ← c.cell-3.ensures, ← c.cell-2.ensures, ← c.cell.ensures) (rw c.long.ensures)
+returns c = rw (← c.cell-6.ensures, ← c.cell-5.ensures, ← c.cell-4.ensures, ← c.cell-3.ensures, ← c.cell-2.ensures, ← c.cell.ensures)
 
 pub cell-requires : goal.cell-requires
 cell-requires c = c.requires.0.inside c.args.row _ c.requires.1 (omega arith)
@@ -19,3 +19,6 @@ cell-requires-4 c = c.requires.0.inside c.args.row _ c.requires.1 (omega arith)
 
 pub cell-requires-5 : goal.cell-requires-5
 cell-requires-5 c = c.requires.0.inside c.args.row _ c.requires.1 (omega arith)
+
+pub cell-requires-6 : goal.cell-requires-6
+cell-requires-6 c = c.requires.0.inside c.args.row _ c.requires.1 (omega arith)

@@ -1,9 +1,9 @@
 -- Each field is the number that the definition reads. Assumes nothing.
 use native.Mathlib.Omega.{arith}
-use Rattle.cells.proofs.t642.row.Goals as goal
+use Rattle.cells.proofs.t643.Row643TableRow.row.Goals as goal
 
 pub returns : goal.returns
-returns c = rw (← c.cell-6.ensures, ← c.cell-5.ensures, ← c.cell-4.ensures, ← c.cell-3.ensures, ← c.cell-2.ensures, ← c.cell.ensures)
+returns c = rw (← c.cell-10.ensures, ← c.cell-9.ensures, ← c.cell-8.ensures, ← c.cell-7.ensures, ← c.cell-6.ensures, ← c.cell-5.ensures, ← c.cell-4.ensures, ← c.cell-3.ensures, ← c.cell-2.ensures, ← c.cell.ensures)
 
 pub cell-requires : goal.cell-requires
 cell-requires c = c.requires.0.inside c.args.row _ c.requires.1 (omega arith)
@@ -22,3 +22,15 @@ cell-requires-5 c = c.requires.0.inside c.args.row _ c.requires.1 (omega arith)
 
 pub cell-requires-6 : goal.cell-requires-6
 cell-requires-6 c = c.requires.0.inside c.args.row _ c.requires.1 (omega arith)
+
+pub cell-requires-7 : goal.cell-requires-7
+cell-requires-7 c = c.requires.0.inside c.args.row _ c.requires.1 (omega arith)
+
+pub cell-requires-8 : goal.cell-requires-8
+cell-requires-8 c = c.requires.0.inside c.args.row _ c.requires.1 (omega arith)
+
+pub cell-requires-9 : goal.cell-requires-9
+cell-requires-9 c = c.requires.0.inside c.args.row _ c.requires.1 (omega arith)
+
+pub cell-requires-10 : goal.cell-requires-10
+cell-requires-10 c = c.requires.0.inside c.args.row _ c.requires.1 (omega arith)
