@@ -1,3 +1,4 @@
 pub mod Keys
+pub mod Hits
 pub mod Rising
 pub mod Seen

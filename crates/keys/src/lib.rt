@@ -3,8 +3,9 @@
 #![tactic(auto)]
 
 pub mod find;
+pub mod first;
 pub mod halved;
-pub mod keyed;
 pub mod next;
 pub mod seen;
 pub mod stretch;
+pub mod tally;
