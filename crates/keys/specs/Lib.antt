@@ -2,3 +2,4 @@ pub mod Keys
 pub mod Hits
 pub mod Rising
 pub mod Seen
+pub mod Rows

@@ -6,6 +6,7 @@ pub mod find;
 pub mod first;
 pub mod halved;
 pub mod next;
+pub mod rows;
 pub mod seen;
 pub mod stretch;
 pub mod tally;

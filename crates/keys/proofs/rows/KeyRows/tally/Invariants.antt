@@ -2,14 +2,15 @@
 use Prim.Native.Nat.{◌-◌, ◌≤◌}
 use mathlib.Core.Bool.{Bool}
 use Rattle.cells.specs.Tally.{Tallying}
-use Rattle.keys.specs.Hits.{Tests, hit_by}
-use Rattle.keys.proofs.tally.tally.Given as goal
+use Rattle.keys.specs.Hits.{Tests}
+use Rattle.keys.specs.Rows.{hit_of}
+use Rattle.keys.proofs.rows.KeyRows.tally.Given as goal
 
 abbrev pub invariant-loop-here : goal.invariant-loop-here
 invariant-loop-here g l =
-    (l.from ≤ l.v.rows)
+    (l.from ≤ l.self.view.rows)
     × (l.count ≤ l.from)
-    × ((p : _ → Bool) → Tests (goal.F-post g l.test) p → Tallying (hit_by g.R.TableRow.read g.R.TableRow.keyed l.key l.t l.v p) l.v.rows l.from l.count l.last)
+    × ((p : _ → Bool) → Tests (goal.F-post g l.test) p → Tallying (hit_of l.self p) l.self.view.rows l.from l.count l.last)
 
 abbrev pub decreases-loop-here : goal.decreases-loop-here
-decreases-loop-here g l = l.v.rows - l.from
+decreases-loop-here g l = l.self.view.rows - l.from
