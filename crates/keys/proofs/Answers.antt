@@ -1,15 +1,18 @@
 -- Asked about rows with its key, a stretch answers as the view does. Assumes nothing.
 use Prim.Native.Nat.{ℕ, zero, suc, ◌+◌, ◌-◌, ◌≤◌, ◌<◌}
 use mathlib.Core.Path.{◌≡◌, refl, sym, ◌∙◌, ap, ap₂, fun_ext}
-use mathlib.Core.Bool.{Bool, false}
+use mathlib.Core.Bool.{Bool, false, ◌&&◌}
 use mathlib.Core.List.{List, ◌∷◌}
 use native.Mathlib.Nat.{add-zero, add-suc}
 use native.Mathlib.Decide.{le_ind}
 use native.Mathlib.Omega.{arith}
+use borrow.Author.Tests.{ne_eqb}
+use lib.Dec.{eqb}
 use lib.ListN.{length}
-use Rattle.guideline.specs.Table.{keep, hits}
+use Rattle.guideline.specs.Table.{keep, hits, among}
 use Rattle.guideline.specs.declared.view.View.{View}
 use Rattle.guideline.specs.Bytes.{cell, listed}
+use Rattle.cells.specs.declared.row.TableRow.{Ghosts}
 use Rattle.cells.specs.Views.{Fits, narrowed}
 use Rattle.cells.specs.Lents.{shown_by}
 use Rattle.cells.proofs.Views.{narrowed_read, narrowed_fits}
@@ -49,6 +52,11 @@ module _ {k key : ℕ} {l : List ℕ} {v r : View} (s : Stretch l v k key r) whe
   stretch_answers read p other =
       ap (λ (x : View). shown_by read l x p) s.cut
       ∙ narrowed_answers read l v p s.from s.to s.order s.most (λ i below. other (cell l v i) (s.before i (omega arith) below)) (λ i above below. other (cell l v i) (s.after i above below))
+
+  -- asked about rows with the key, it answers as the view does
+  pub stretch_among : {A : Type 0} (R : Ghosts A) (reads_key : (f : ℕ → ℕ) → R.keyed key (R.read f) ≡ eqb (f k) key) → among (R.keyed key) (shown_by R.read l r) ≡ among (R.keyed key) (shown_by R.read l v)
+  stretch_among {A} R reads_key =
+      fun_ext (λ (p : A → Bool). stretch_answers R.read (λ x. R.keyed key x && p x) (λ f other. rw (reads_key f, ne_eqb (f k) key other)))
 
   pub stretch_fits : {w : ℕ} → Fits w v (length l) → Fits w r (length l)
   stretch_fits f = rw s.cut (narrowed_fits s.from s.to s.order s.most f)
