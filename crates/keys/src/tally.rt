@@ -1,5 +1,5 @@
 // How many rows of a key a test lets pass, and the last of them.
-ghost use Rattle.std.specs.Prelude.{◌≡◌, Bool};
+ghost use Rattle.std.specs.Prelude.{◌≡◌, ◌<◌, Bool};
 ghost use Rattle.cells.specs.Tally.{tallied};
 ghost use Rattle.keys.specs.Hits.{Tests};
 ghost use Rattle.keys.specs.Rows.{hit_of};
@@ -12,7 +12,8 @@ use cells::row::TableRow;
 impl<'a, R: TableRow> KeyRows<'a, R> {
     pub fn tally<F: Fn(R) -> bool>(self, test: F) -> Tally
         requires { F.IsAlwaysCallable test }
-        ensures { (p : R → Bool) → Tests (F.post test) p → result ≡ tallied (hit_of self.entry p) self.entry.view.rows }
+        ensures inside { 0 < result.count → result.last < self.entry.view.rows }
+        ensures tally { (p : R → Bool) → Tests (F.post test) p → result ≡ tallied (hit_of self.entry p) self.entry.view.rows }
     {
         let mut count: usize = 0;
         let mut last: usize = 0;
