@@ -2,3 +2,4 @@ pub mod Passed
 pub mod Joined
 pub mod Kept
 pub mod Frequencies
+mod Valued
