@@ -3,3 +3,4 @@ pub mod Joined
 pub mod Kept
 pub mod Frequencies
 mod Valued
+pub mod Needing
