@@ -8,7 +8,7 @@ use Rattle.guideline.specs.Forms.{when, ask, choose, refuse}
 use Rattle.guideline.specs.Steps.{hpk_level, by_hpk}
 use Rattle.keys.specs.Rows.{key_rows}
 use Rattle.tables.specs.Tests.{of_hpk}
-use Rattle.tables.proofs.Told.{found_told}
+use Rattle.tables.proofs.FoundTold.{found_told}
 use Rattle.selection.proofs.Asked.{given_in, blank_in}
 use Rattle.selection.proofs.Given.{hpk_given}
 use Rattle.selection.proofs.level.by_hpk.Goals as goal

@@ -8,7 +8,7 @@ use Rattle.guideline.specs.Forms.{when, ask, choose, refuse}
 use Rattle.guideline.specs.Steps.{prk_level, by_prk}
 use Rattle.keys.specs.Rows.{key_rows}
 use Rattle.tables.specs.Tests.{of_prk}
-use Rattle.tables.proofs.Told.{found_told}
+use Rattle.tables.proofs.FoundTold.{found_told}
 use Rattle.selection.proofs.Asked.{given_in, blank_in}
 use Rattle.selection.proofs.Given.{prk_given}
 use Rattle.selection.proofs.level.by_prk.Goals as goal

@@ -8,7 +8,7 @@ use Rattle.keys.specs.Rows.{key_rows}
 use Rattle.tables.specs.Found.{found}
 use Rattle.tables.specs.Tests.{by_route}
 use Rattle.tables.specs.declared.found.Found.TheVariants.{Nothing}
-use Rattle.tables.proofs.Told.{found_told}
+use Rattle.tables.proofs.FoundTold.{found_told}
 use Rattle.selection.specs.Kept.{route_kept}
 use Rattle.selection.proofs.setting.keep_route.Goals as goal
 
