@@ -4,8 +4,8 @@ use mathlib.Core.List.{List}
 use mathlib.Core.Path.{◌≡◌, refl, sym, ap, ◌∙◌}
 use native.Mathlib.Omega.{arith}
 use lib.ListN.{length}
-use Rattle.guideline.specs.declared.counted.Counted.{Counted}
-use Rattle.guideline.specs.declared.counted.Counted.TheVariants.{All, Refused}
+use Rattle.guideline.specs.Types.{Counted}
+use Rattle.guideline.specs.Types.{All, RangeRefused as Refused}
 use Rattle.guideline.specs.declared.entries.Entry.{Entry}
 use Rattle.guideline.specs.Bytes.{Lents, spelled}
 use Rattle.guideline.specs.Check.{answer_length}

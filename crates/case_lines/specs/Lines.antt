@@ -1,8 +1,8 @@
 -- The lines of a case: for each entry, in their order, that of the check's answer, or those of the range check's.
 use Rattle.std.specs.Prelude.{ℕ, ◌+◌, ◌*◌, ◌-◌, ◌≤◌, ◌<◌, cond, ◌≡◌, List, [], ◌∷◌, leb, ltb, length}
 use Rattle.decimals.specs.Put.{Put}
-use Rattle.guideline.specs.declared.counted.Counted.{Counted}
-use Rattle.guideline.specs.declared.counted.Counted.TheVariants.{All, Refused}
+use Rattle.guideline.specs.Types.{Counted}
+use Rattle.guideline.specs.Types.{All, RangeRefused as Refused}
 use Rattle.guideline.specs.declared.entries.Entry.{Entry}
 use Rattle.guideline.specs.Bytes.{Lents, spelled}
 use Rattle.guideline.specs.Rows.{Tables}

@@ -12,7 +12,7 @@ ghost use Rattle.case_lines.specs.Lines.{Fitting, InList, counted_lines, range_l
 use crate::Test;
 use each_count::{check_each, check_each_after};
 use guideline::answer::Answer;
-use guideline::counted::Counted;
+use guideline::counted::RangeRefusal;
 use guideline::entries::Entry;
 use stream::cases::Wanted;
 
@@ -35,7 +35,7 @@ fn answer(
     first: u32,
     last: u32,
     list: &mut [u32],
-) -> Counted
+) -> Result<usize, RangeRefusal>
     requires { Fitting test (lents t640.now t641.now t642.now t643.now t649.now t730.now t070.now) }
     ensures { AnswersEach (lents t640.now t641.now t642.now t643.now t649.now t730.now t070.now) e first last list.old list.new result }
 {
@@ -65,13 +65,13 @@ fn put_places(list: &[u32], n: usize, out: &mut [u8], at: usize) -> usize
     end
 }
 
-fn put_counted(counted: Counted, list: &[u32], out: &mut [u8], at: usize) -> usize
+fn put_counted(counted: Result<usize, RangeRefusal>, list: &[u32], out: &mut [u8], at: usize) -> usize
     requires { InList counted (length list.now) × (at + longest_range ≤ length out.old) }
     ensures { Put out.old at (counted_lines (λ i. numbers_at i list.now) counted) out.new result × (result ≤ at + longest_range) }
 {
     match counted {
-        Counted::All(n) => put_places(list, n, out, at),
-        Counted::Refused(why) => stream::lines::put_numbers(&[why.number()], out, at),
+        Ok(n) => put_places(list, n, out, at),
+        Err(why) => stream::lines::put_numbers(&[why.number()], out, at),
     }
 }
 

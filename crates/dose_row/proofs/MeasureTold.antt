@@ -2,7 +2,7 @@
 use mathlib.Core.Path.{◌≡◌, subst}
 use mathlib.Core.List.{List}
 use Prim.Native.Nat.{ℕ}
-use Rattle.guideline.specs.declared.entries.Value.{Value}
+use Rattle.guideline.specs.Types.{Value}
 use Rattle.guideline.specs.declared.view.View.{View}
 use Rattle.filter.specs.declared.Measure.{Measure}
 use Rattle.sieve.specs.declared.settled.Settled.{Settled}

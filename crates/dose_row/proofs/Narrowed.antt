@@ -6,8 +6,8 @@ use Rattle.guideline.specs.declared.bounds.Bounds.{Bounds}
 use Rattle.guideline.specs.declared.context.Context.{Context}
 use Rattle.guideline.specs.declared.entries.Datum.{Datum}
 use Rattle.guideline.specs.declared.entries.Prescription.{Prescription}
-use Rattle.guideline.specs.declared.entries.Value.{Value}
-use Rattle.guideline.specs.declared.entries.Value.TheVariants.{Blank, Given}
+use Rattle.guideline.specs.Types.{Value}
+use Rattle.guideline.specs.Types.{Blank, Given}
 use Rattle.guideline.specs.declared.refusals.Ending.{Ending}
 use Rattle.guideline.specs.declared.refusals.Ending.TheVariants.{Suppressed, NoFrequency, RowsSeveral}
 use Rattle.guideline.specs.declared.refusals.Question.{Question}

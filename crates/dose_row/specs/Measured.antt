@@ -1,7 +1,7 @@
 -- Step 10 by measure: what is asked, what is refused, and the rows that are left.
 use Rattle.std.specs.Prelude.{◌≡◌, List, ℕ, length}
 use Rattle.guideline.specs.declared.entries.Datum.{Datum}
-use Rattle.guideline.specs.declared.entries.Value.{Value}
+use Rattle.guideline.specs.Types.{Value}
 use Rattle.guideline.specs.declared.refusals.Ending.{Ending}
 use Rattle.guideline.specs.declared.refusals.Ending.TheVariants.{NoRowForWeight, NoRowForSurface}
 use Rattle.guideline.specs.declared.refusals.Question.{Question}

@@ -8,7 +8,7 @@ use Rattle.guideline.specs.declared.context.Ratio.{Ratio}
 use Rattle.guideline.specs.declared.context.Selected.{Selected}
 use Rattle.guideline.specs.declared.entries.Datum.{Datum}
 use Rattle.guideline.specs.declared.entries.Prescription.{Prescription}
-use Rattle.guideline.specs.declared.entries.Value.{Value}
+use Rattle.guideline.specs.Types.{Value}
 use Rattle.guideline.specs.declared.refusals.Ending.TheVariants.{LimitsAbsent, LimitsSeveral}
 use Rattle.guideline.specs.declared.rows.Row649.{Row649}
 use Rattle.guideline.specs.declared.rows.TableName.TheVariants.{T640, T641, T642, T643, T649}

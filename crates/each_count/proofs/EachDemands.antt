@@ -7,11 +7,11 @@ use mathlib.Core.Path.{◌≡◌, refl, sym, ◌∙◌, ap, subst}
 use lib.Dec.{T}
 use lib.ListN.{get_or, drop}
 use Rattle.guideline.specs.declared.answer.Answer.{Answer}
-use Rattle.guideline.specs.declared.counted.Counted.{Counted}
-use Rattle.guideline.specs.declared.counted.Counted.TheVariants.{All, Refused}
+use Rattle.guideline.specs.Types.{Counted}
+use Rattle.guideline.specs.Types.{All, RangeRefused as Refused}
 use Rattle.guideline.specs.declared.counted.RangeRefusal.{RangeRefusal}
-use Rattle.guideline.specs.declared.entries.Value.TheVariants.{Blank}
-use Rattle.guideline.specs.declared.entries.Switch.TheVariants.{NotGiven, Position}
+use Rattle.guideline.specs.Types.{Blank}
+use Rattle.guideline.specs.Types.{NotGiven, Position}
 use Rattle.guideline.specs.declared.entries.Entry.{Entry}
 use Rattle.guideline.specs.declared.rows.TableName.TheVariants.{T070}
 use Rattle.guideline.specs.declared.entries.Datum.{Datum}

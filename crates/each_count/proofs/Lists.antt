@@ -4,8 +4,8 @@ use native.Mathlib.Omega.{arith}
 use mathlib.Core.List.{List, ◌++◌}
 use mathlib.Core.Path.{◌≡◌, refl}
 use lib.ListN.{drop}
-use Rattle.guideline.specs.declared.counted.Counted.{Counted}
-use Rattle.guideline.specs.declared.counted.Counted.TheVariants.{All, Refused}
+use Rattle.guideline.specs.Types.{Counted}
+use Rattle.guideline.specs.Types.{All, RangeRefused as Refused}
 use Rattle.guideline.specs.declared.counted.RangeRefusal.{RangeRefusal}
 use Rattle.guideline.specs.declared.entries.Entry.{Entry}
 use Rattle.guideline.specs.Rows.{Tables}

@@ -1,7 +1,7 @@
 -- What the range check promises of its result and of the lent list, as it was (old) and as it is after the call (new).
 use Rattle.std.specs.Prelude.{ℕ, List, ◌≡◌}
-use Rattle.guideline.specs.declared.counted.Counted.{Counted}
-use Rattle.guideline.specs.declared.counted.Counted.TheVariants.{All, Refused}
+use Rattle.guideline.specs.Types.{Counted}
+use Rattle.guideline.specs.Types.{All, RangeRefused as Refused}
 use Rattle.guideline.specs.declared.entries.Entry.{Entry}
 use Rattle.guideline.specs.Bytes.{Lents, spelled}
 use Rattle.guideline.specs.Counts.{places_in, counted, list_after}

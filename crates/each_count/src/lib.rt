@@ -10,35 +10,35 @@ ghost use Rattle.ranges.specs.Soundly.{soundness};
 ghost use Rattle.each_count.specs.Each.{how_many, AnswersEach};
 
 use guideline::answer::Answer;
-use guideline::counted::{Counted, RangeRefusal};
-use guideline::entries::{Entry, Switch};
+use guideline::counted::RangeRefusal;
+use guideline::entries::Entry;
 use ranges::sound::Soundness;
 
 const MOST_COUNTS: usize = 16;
 
 // 131, then 132; or how many counts there are.
-fn count(first: u32, last: u32, places: usize) -> Counted
+fn count(first: u32, last: u32, places: usize) -> Result<usize, RangeRefusal>
     ensures { result ≡ counted first last places }
 {
     if first <= last {
         let n = (last - first) as usize + 1;
         if MOST_COUNTS < n {
-            return Counted::Refused(RangeRefusal::NoRange);
+            return Err(RangeRefusal::NoRange);
         }
         if places < n {
-            return Counted::Refused(RangeRefusal::NoRoom);
+            return Err(RangeRefusal::NoRoom);
         }
-        return Counted::All(n);
+        return Ok(n);
     }
-    Counted::Refused(RangeRefusal::NoRange)
+    Err(RangeRefusal::NoRange)
 }
 
-fn how_many(counted: Counted) -> usize
+fn how_many(counted: Result<usize, RangeRefusal>) -> usize
     ensures { result ≡ how_many counted }
 {
     match counted {
-        Counted::All(n) => n,
-        Counted::Refused(_) => 0,
+        Ok(n) => n,
+        Err(_) => 0,
     }
 }
 
@@ -59,7 +59,7 @@ fn on_unless_given(e: Entry) -> Entry
 {
     let rest = e.rest;
     let months = rest.months;
-    e.with_months(months.given_or(Switch::ON))
+    e.with_months(months.given_or(Prescription::ON))
 }
 
 // n answers, from that of the first count on.
@@ -105,7 +105,7 @@ pub fn check_each_after(
     first: u32,
     last: u32,
     list: &mut [u32],
-) -> Counted
+) -> Result<usize, RangeRefusal>
     requires { s ≡ soundness (lents t640.now t641.now t642.now t643.now t649.now t730.now t070.now) }
     ensures { AnswersEach (lents t640.now t641.now t642.now t643.now t649.now t730.now t070.now) e first last list.old list.new result }
 {
@@ -140,11 +140,11 @@ pub fn check_each(
     first: u32,
     last: u32,
     list: &mut [u32],
-) -> Counted
+) -> Result<usize, RangeRefusal>
     ensures { AnswersEach (lents t640.now t641.now t642.now t643.now t649.now t730.now t070.now) e first last list.old list.new result }
 {
     let counted = count(first, last, list.len() / Answer::LENGTH);
-    let Counted::All(_) = counted else {
+    let Ok(_) = counted else {
         return counted;
     };
     let s = ranges::sound::tables_sound(t640, t641, t642, t643, t649, t730, t070);

@@ -1,7 +1,7 @@
 -- A datum that is blank, or given within a range.
 use Rattle.std.specs.Prelude.{Bool, true}
-use Rattle.guideline.specs.declared.entries.Value.{Value}
-use Rattle.guideline.specs.declared.entries.Value.TheVariants.{Blank, Given}
+use Rattle.guideline.specs.Types.{Value}
+use Rattle.guideline.specs.Types.{Blank, Given}
 use Rattle.guideline.specs.declared.range.Range.{Range}
 use Rattle.guideline.specs.Values.{within}
 

@@ -4,8 +4,8 @@ use mathlib.Core.Bool.{Bool, true, false}
 use mathlib.Core.Path.{◌≡◌, refl, sym, ◌∙◌, ap}
 use native.Mathlib.Omega.{arith}
 use Rattle.guideline.specs.declared.entries.Entry.{Entry}
-use Rattle.guideline.specs.declared.entries.Value.{Value}
-use Rattle.guideline.specs.declared.entries.Value.TheVariants.{Blank, Given}
+use Rattle.guideline.specs.Types.{Value}
+use Rattle.guideline.specs.Types.{Blank, Given}
 use Rattle.guideline.specs.declared.refusals.Ending.TheVariants.{HpkRowsSeveral, HpkRowDiffers}
 use Rattle.guideline.specs.declared.rows.Row070.{Row070}
 use Rattle.guideline.specs.declared.rows.TableName.TheVariants.{T070}

@@ -65,8 +65,7 @@ impl Reached {
     {
         Reached {
             basis: level.gpdbas,
-            category: 0,
-            rule: 0,
+            ..Reached::nothing()
         }
     }
 

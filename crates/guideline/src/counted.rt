@@ -2,14 +2,8 @@
 ghost use Rattle.std.specs.Prelude.{◌≡◌};
 ghost use Rattle.guideline.specs.Counts.{refusal_number};
 
-// Each count has its answer, and so many stand in the lent list; or the refusal, and then the list is as it was.
-#[derive(Clone, Copy)]
-pub enum Counted {
-    All(usize),
-    Refused(RangeRefusal),
-}
-
-#[derive(Clone, Copy)]
+// A range is refused, and the lent list is as it was. (Else each count has its answer, and it is said how many stand in the list.)
+#[derive(Clone, Copy, PartialEq, Eq)]
 pub enum RangeRefusal {
     NoRange,
     NoRoom,

@@ -14,43 +14,21 @@ pub enum Datum {
     Surface,
 }
 
-// What an entry says of such a datum.
-#[derive(Clone, Copy)]
-pub enum Value {
-    Blank,
-    Given(u32),
+// P3 and P4: a setting of the host that is not given means off.
+pub fn switched(setting: Option<u32>) -> bool
+    ensures { result ≡ switched setting }
+{
+    match setting {
+        None => false,
+        Some(position) => position == Prescription::ON,
+    }
 }
 
-// A setting of the host that may be not given. Which numbers it may hold is tested by the check (125).
-#[derive(Clone, Copy)]
-pub enum Switch {
-    NotGiven,
-    Position(u32),
-}
-
-impl Switch {
-    pub const OFF: u32 = 0;
-
-    pub const ON: u32 = 1;
-
-    // P3 and P4: not given means off.
-    pub fn on(self) -> bool
-        ensures { result ≡ switched self }
-    {
-        match self {
-            Switch::NotGiven => false,
-            Switch::Position(position) => position == Switch::ON,
-        }
-    }
-
-    pub fn given_or(self, position: u32) -> Switch
-        ensures { result ≡ given_or position self }
-    {
-        match self {
-            Switch::NotGiven => Switch::Position(position),
-            Switch::Position(given) => Switch::Position(given),
-        }
-    }
+// What is given, or else this position.
+pub fn given_or(setting: Option<u32>, position: u32) -> Option<u32>
+    ensures { result ≡ given_or position setting }
+{
+    setting.or(Some(position))
 }
 
 // One prescription to be checked: the data that may be blank, and the rest. specs/Entries.antt has document 01's order of its numbers.
@@ -64,51 +42,33 @@ impl Entry {
     pub fn with_count(self, count: u32) -> Entry
         ensures { result ≡ with_count count self }
     {
-        let known = self.known;
-        let mut rest = self.rest;
-        rest.count = count;
-        Entry { known, rest }
+        let rest = Prescription { count, ..self.rest };
+        Entry { rest, ..self }
     }
 
-    pub fn with_months(self, months: Switch) -> Entry
+    pub fn with_months(self, months: Option<u32>) -> Entry
         ensures { result ≡ with_months months self }
     {
-        let p = self.rest;
-        let quiet = p.quiet;
         let rest = Prescription {
-            gpk: p.gpk,
-            care: p.care,
-            reason: p.reason,
-            icpcto: p.icpcto,
-            route: p.route,
-            count: p.count,
-            time: p.time,
-            lowest: p.lowest,
-            highest: p.highest,
-            entered: p.entered,
-            base: p.base,
-            srtcde: p.srtcde,
-            code: p.code,
             months,
-            quiet,
-            edition: p.edition,
+            ..self.rest
         };
-        let known = self.known;
-        Entry { known, rest }
+        Entry { rest, ..self }
     }
 }
 
+// None is blank.
 #[derive(Clone, Copy)]
 pub struct Data {
-    pub age: Value,
-    pub sex: Value,
-    pub hpk: Value,
-    pub prk: Value,
-    pub weight: Value,
-    pub surface: Value,
+    pub age: Option<u32>,
+    pub sex: Option<u32>,
+    pub hpk: Option<u32>,
+    pub prk: Option<u32>,
+    pub weight: Option<u32>,
+    pub surface: Option<u32>,
 }
 
-// The part of an entry that is never blank.
+// The part of an entry that is never blank. A setting of the host, months or quiet, may be not given; which numbers it may hold is tested by the check (125).
 #[derive(Clone, Copy)]
 pub struct Prescription {
     pub gpk: u32,
@@ -124,14 +84,19 @@ pub struct Prescription {
     pub base: u32,
     pub srtcde: u32,
     pub code: u32,
-    pub months: Switch,
-    pub quiet: Switch,
+    pub months: Option<u32>,
+    pub quiet: Option<u32>,
     pub edition: u32,
 }
 
 impl Prescription {
     // "GPK (0 none)"
     pub const NO_GPK: u32 = 0;
+
+    // The positions of a setting.
+    pub const OFF: u32 = 0;
+
+    pub const ON: u32 = 1;
 
     // P7: hosts that have only text 8 for a missing frequency, and hosts with 24 and 25.
     pub const FORMER: u32 = 1;

@@ -1,7 +1,10 @@
 // How a check ends before step 12.
 ghost use Rattle.std.specs.Prelude.{◌≡◌};
 ghost use Rattle.guideline.specs.Ask.{no_refusal};
+ghost use Rattle.guideline.specs.Steps.{nothing};
+ghost use Rattle.guideline.specs.Results.{stopped_at};
 
+use crate::answer::Reached;
 use crate::rows::TableName;
 
 // A question: the datum that it asks for and the step that asks. One datum may be asked for at several places.
@@ -74,5 +77,24 @@ impl Refusal {
         ensures { result ≡ no_refusal }
     {
         Refusal::Ends(Ending::EntryOutOfRange)
+    }
+}
+
+// A check that has ended before its comparison: by a step's refusal, and what is reached there.
+#[derive(Clone, Copy)]
+pub struct Stopped {
+    pub why: Refusal,
+    pub reached: Reached,
+}
+
+// A step that is refused before the basis is chosen.
+impl From<Refusal> for Stopped {
+    ghost from_gives = { λ why s. s ≡ stopped_at nothing why };
+
+    fn from(why: Refusal) -> Stopped {
+        Stopped {
+            why,
+            reached: Reached::nothing(),
+        }
     }
 }

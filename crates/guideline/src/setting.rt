@@ -45,9 +45,7 @@ impl Setting {
     {
         Setting {
             care: Setting::ALL_CARE,
-            reason: self.reason,
-            icpcto: self.icpcto,
-            route: self.route,
+            ..self
         }
     }
 
@@ -55,10 +53,8 @@ impl Setting {
         ensures { result ≡ record { care = self.care; reason = self.reason; icpcto = whole_reason; route = self.route } }
     {
         Setting {
-            care: self.care,
-            reason: self.reason,
             icpcto: Setting::WHOLE_REASON,
-            route: self.route,
+            ..self
         }
     }
 
@@ -66,10 +62,9 @@ impl Setting {
         ensures { result ≡ record { care = self.care; reason = Q_general; icpcto = whole_reason; route = self.route } }
     {
         Setting {
-            care: self.care,
             reason: Setting::Q_GENERAL,
             icpcto: Setting::WHOLE_REASON,
-            route: self.route,
+            ..self
         }
     }
 
@@ -77,10 +72,8 @@ impl Setting {
         ensures { result ≡ record { care = self.care; reason = self.reason; icpcto = self.icpcto; route = no_route } }
     {
         Setting {
-            care: self.care,
-            reason: self.reason,
-            icpcto: self.icpcto,
             route: Setting::NO_ROUTE,
+            ..self
         }
     }
 }

@@ -5,8 +5,8 @@ use mathlib.Core.Bool.{true, false}
 use mathlib.Core.List.{List}
 use Rattle.guideline.specs.declared.bounds.Bounds.{Bounds}
 use Rattle.guideline.specs.declared.entries.Datum.{Datum}
-use Rattle.guideline.specs.declared.entries.Value.{Value}
-use Rattle.guideline.specs.declared.entries.Value.TheVariants.{Blank, Given}
+use Rattle.guideline.specs.Types.{Value}
+use Rattle.guideline.specs.Types.{Blank, Given}
 use Rattle.guideline.specs.declared.refusals.Question.{Question}
 use Rattle.guideline.specs.declared.refusals.Refusal.TheVariants.{Asks}
 use Rattle.guideline.specs.declared.rows.Row643.{Row643}

@@ -1,7 +1,7 @@
 -- 3.4.2.1 by measure: what is asked, and what is settled then.
 use Rattle.std.specs.Prelude.{ℕ, ◌≡◌, List}
 use Rattle.guideline.specs.declared.entries.Datum.{Datum}
-use Rattle.guideline.specs.declared.entries.Value.{Value}
+use Rattle.guideline.specs.Types.{Value}
 use Rattle.guideline.specs.declared.refusals.Question.{Question}
 use Rattle.guideline.specs.declared.refusals.Question.TheVariants.{WeightPerDay, SurfacePerDay}
 use Rattle.guideline.specs.declared.refusals.Refusal.TheVariants.{Asks}

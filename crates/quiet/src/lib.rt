@@ -2,7 +2,7 @@
 #![tactic(auto)]
 
 ghost use Rattle.std.specs.Prelude.{◌≡◌, length};
-ghost use Rattle.guideline.specs.declared.entries.Value.TheVariants.{Blank};
+ghost use Rattle.guideline.specs.Types.{Blank};
 ghost use Rattle.guideline.specs.declared.rows.TableName.TheVariants.{T643, T649};
 ghost use Rattle.guideline.specs.Ask.{run};
 ghost use Rattle.guideline.specs.Entries.{datum};

@@ -11,16 +11,16 @@ impl Ranged for Row070 {
     #[tactic(auto, unfolding(guideline::specs::Rows::sound_row))]
     fn in_range(self) -> bool {
         guideline::both(
-            fields::codes_from_1().holds(self.hpkode),
+            fields::CODES_FROM_1.holds(self.hpkode),
             guideline::both(
-                fields::codes_from_1().holds(self.prkode),
+                fields::CODES_FROM_1.holds(self.prkode),
                 guideline::both(
-                    fields::counts_of_070().holds(self.hpanpr),
+                    fields::COUNTS_OF_070.holds(self.hpanpr),
                     guideline::both(
-                        fields::codes_from_1().holds(self.gpkode),
+                        fields::CODES_FROM_1.holds(self.gpkode),
                         guideline::both(
-                            fields::counts_of_070().holds(self.prangp),
-                            fields::counts_of_070().holds(self.hpangp),
+                            fields::COUNTS_OF_070.holds(self.prangp),
+                            fields::COUNTS_OF_070.holds(self.hpangp),
                         ),
                     ),
                 ),

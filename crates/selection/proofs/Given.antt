@@ -4,8 +4,8 @@ use mathlib.Core.Path.{◌≡◌}
 use mathlib.Core.Bool.{true}
 use Rattle.guideline.specs.declared.entries.Datum.{Datum}
 use Rattle.guideline.specs.declared.entries.Datum.TheVariants.{Hpk, Prk}
-use Rattle.guideline.specs.declared.entries.Value.{Value}
-use Rattle.guideline.specs.declared.entries.Value.TheVariants.{Given}
+use Rattle.guideline.specs.Types.{Value}
+use Rattle.guideline.specs.Types.{Given}
 use Rattle.guideline.specs.declared.rows.Row641.{Row641}
 use Rattle.guideline.specs.Ask.{run, ◌>>=◌}
 use Rattle.guideline.specs.Table.{Table, some}

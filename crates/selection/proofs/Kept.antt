@@ -4,7 +4,7 @@ use mathlib.Core.Path.{◌≡◌, refl, sym, ◌∙◌, ap}
 use mathlib.Core.Bool.{Bool, true, false, cond}
 use lib.Dec.{eqb}
 use Rattle.guideline.specs.declared.entries.Datum.{Datum}
-use Rattle.guideline.specs.declared.entries.Value.{Value}
+use Rattle.guideline.specs.Types.{Value}
 use Rattle.guideline.specs.declared.refusals.Ending.TheVariants.{NoSetting, SettingSeveral}
 use Rattle.guideline.specs.declared.rows.Row642.{Row642}
 use Rattle.guideline.specs.declared.rows.TableName.TheVariants.{T642}

@@ -2,7 +2,7 @@
 use Prim.Native.Nat.{ℕ}
 use mathlib.Core.Path.{◌≡◌, refl, sym, ◌∙◌, ap}
 use mathlib.Core.Bool.{Bool, true, false, ◌&&◌, and-true, and_comm}
-use Rattle.guideline.specs.declared.entries.Value.TheVariants.{Blank}
+use Rattle.guideline.specs.Types.{Blank}
 use Rattle.guideline.specs.declared.rows.Row643.{Row643}
 use Rattle.guideline.specs.declared.rows.TableName.TheVariants.{T643}
 use Rattle.guideline.specs.Rows.{keyed}

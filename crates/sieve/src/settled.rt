@@ -5,35 +5,34 @@ ghost use Rattle.filter.specs.Filters.{filter643};
 ghost use Rattle.sieve.specs.Settled.{of_category, and_age, and_frequency, and_weight, and_surface, and_measure, age_filter, measure_filter, settled643};
 
 use filter::{Filter, Measure};
-use guideline::entries::Value;
 use guideline::rows::Row643;
 
 // An age and the measures are settled by a number alone: it takes half the bytes of a filter on the stack. `Blank`: nothing is settled yet.
 #[derive(Clone, Copy)]
 pub struct Settled {
     pub category: u32,
-    pub age: Value,
+    pub age: Option<u32>,
     pub frequency: Filter,
-    pub weight: Value,
-    pub surface: Value,
+    pub weight: Option<u32>,
+    pub surface: Option<u32>,
 }
 
 // All rows pass where nothing is settled yet.
-fn fits_age(r: Row643, age: Value) -> bool
+fn fits_age(r: Row643, age: Option<u32>) -> bool
     ensures { result ≡ filter643 (age_filter age) r }
 {
     match age {
-        Value::Blank => true,
-        Value::Given(months) => filter::fits_age(r, months),
+        None => true,
+        Some(months) => filter::fits_age(r, months),
     }
 }
 
-fn fits_measure(r: Row643, m: Measure, value: Value) -> bool
+fn fits_measure(r: Row643, m: Measure, value: Option<u32>) -> bool
     ensures { result ≡ filter643 (measure_filter m value) r }
 {
     match value {
-        Value::Blank => true,
-        Value::Given(x) => filter::fits_measure(r, m, x),
+        None => true,
+        Some(x) => filter::fits_measure(r, m, x),
     }
 }
 
@@ -44,10 +43,10 @@ impl Settled {
     {
         Settled {
             category,
-            age: Value::Blank,
+            age: None,
             frequency: Filter::Every,
-            weight: Value::Blank,
-            surface: Value::Blank,
+            weight: None,
+            surface: None,
         }
     }
 
@@ -60,7 +59,7 @@ impl Settled {
         let surface = self.surface;
         Settled {
             category: self.category,
-            age: Value::Given(months),
+            age: Some(months),
             frequency,
             weight,
             surface,
@@ -94,7 +93,7 @@ impl Settled {
             category: self.category,
             age,
             frequency,
-            weight: Value::Given(x),
+            weight: Some(x),
             surface,
         }
     }
@@ -110,7 +109,7 @@ impl Settled {
             age,
             frequency,
             weight,
-            surface: Value::Given(x),
+            surface: Some(x),
         }
     }
 

@@ -38,12 +38,12 @@ pub returns-then-i-v : goal.returns-then-i-v
 returns-then-i-v c =
     let a = c.args in
     let l = a.t643.now in
-    let x = c.in-Given.x in
+    let x = c.in-Some.x in
     let t = kept l a.v a.s in
     let needed = first_some l a.v a.s (filter643 (Matters a.m)) c.first.ensures c.if-first-v.false in
     let none_left = first_none l a.v a.s (filter643 (FitsMeasure a.m x)) c.first-i.ensures (omega arith) in
     λ d e.
-    measure_given (question_of a.m) (ending_of a.m) (measure_bounds a.m) t d needed (e ∙ c.in-Given.is)
+    measure_given (question_of a.m) (ending_of a.m) (measure_bounds a.m) t d needed (e ∙ c.in-Some.is)
     ∙ narrow_none (λ r. fits (measure_bounds a.m r) x) t d (ending_of a.m) none_left
     ∙ ap (λ (n : Ending). Refused (Ends n) tt) (sym c.ending_of.ensures)
 
@@ -58,7 +58,7 @@ pub returns : goal.returns
 returns c =
     let a = c.args in
     let l = a.t643.now in
-    let x = c.in-Given.x in
+    let x = c.in-Some.x in
     let i = c.first-i.result in
     let t = kept l a.v a.s in
     let needed = first_some l a.v a.s (filter643 (Matters a.m)) c.first.ensures c.if-first-v.false in
@@ -68,7 +68,7 @@ returns c =
       rw c.narrow.ensures inside,
       ap (other_value a.m) c.by_measure.ensures ∙ other_stays a.m a.s x,
       λ d e.
-          measure_given (question_of a.m) (ending_of a.m) (measure_bounds a.m) t d needed (e ∙ c.in-Given.is)
+          measure_given (question_of a.m) (ending_of a.m) (measure_bounds a.m) t d needed (e ∙ c.in-Some.is)
           ∙ narrow_some (λ r. fits (measure_bounds a.m r) x) t d (ending_of a.m) some_left
           ∙ ap Chosen (sym left),
     )

@@ -32,11 +32,11 @@ pub returns : goal.returns
 returns c =
     let a = c.args in
     let l = a.t643.now in
-    let x = c.in-Given.x in
+    let x = c.in-Some.x in
     let needed = first_some l a.v a.s (filter643 (Matters a.m)) c.first.ensures c.if-first-v.false in
     let left = ap (kept l a.v) c.by_measure.ensures ∙ joined_kept l a.v a.s (and_measure a.s a.m x) (FitsMeasure a.m x) (measure_joins a.m a.s x c.requires.1) in (
       ap (other_value a.m) c.by_measure.ensures ∙ other_stays a.m a.s x,
       λ d e.
-          fitting_given (question_of a.m) (measure_bounds a.m) (kept l a.v a.s) d needed (e ∙ c.in-Given.is)
+          fitting_given (question_of a.m) (measure_bounds a.m) (kept l a.v a.s) d needed (e ∙ c.in-Some.is)
           ∙ ap Chosen (sym left),
     )

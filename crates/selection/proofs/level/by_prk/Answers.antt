@@ -26,4 +26,4 @@ pub returns : goal.returns
 returns c =
     let a = c.args in
     let t = among (keyed T641 a.gpk) (shown T641 a.t641.now a.v) in
-    c.of_prk.ensures (datum a.d) ∙ sym (ap chosen641 (prk_given t (datum a.d) (sym c.any.ensures ∙ c.if-not-any.false) c.in-Given.is))
+    c.of_prk.ensures (datum a.d) ∙ sym (ap chosen641 (prk_given t (datum a.d) (sym c.any.ensures ∙ c.if-not-any.false) c.in-Some.is))

@@ -4,7 +4,7 @@ use Prim.Native.Nat.{ℕ}
 use mathlib.Core.Path.{◌≡◌}
 use Rattle.guideline.specs.declared.rows.Row640.{Row640}
 use Rattle.guideline.specs.declared.entries.Data.{Data}
-use Rattle.guideline.specs.declared.entries.Value.TheVariants.{Given}
+use Rattle.guideline.specs.Types.{Given}
 use Rattle.guideline.specs.declared.refusals.Refusal.TheVariants.{Ends}
 use Rattle.guideline.specs.declared.refusals.Ending.TheVariants.{SexNotAllowed}
 use Rattle.guideline.specs.Entries.{datum}
@@ -21,11 +21,11 @@ returns-in_default c = simp c.in_default.is
 
 pub returns-then-p-eq-BOTH : goal.returns-then-p-eq-BOTH
 unfolding person ask when demand refuse ◌>>=◌ ◌>>◌
-returns-then-p-eq-BOTH c = simp (c.in-Given.is, eq-eqb _ _ c.if-p-eq-BOTH.true)
+returns-then-p-eq-BOTH c = simp (c.in-Some.is, eq-eqb _ _ c.if-p-eq-BOTH.true)
 
 pub returns-in_default-sex : goal.returns-in_default-sex
 unfolding person ask when demand refuse ◌>>=◌ ◌>>◌
-returns-in_default-sex c = simp (c.in-Given.is, ne_eqb _ _ c.if-p-eq-BOTH.false, c.in_default-sex.is)
+returns-in_default-sex c = simp (c.in-Some.is, ne_eqb _ _ c.if-p-eq-BOTH.false, c.in_default-sex.is)
 
 module _ (r : Row640) (x : Data) (n own : ℕ) (age : x.age ≡ Given n) (sex : x.sex ≡ Given own) (one : r.gpdgst ≡ 3 → ⊥) where
   allowed : own ≡ r.gpdgst → Months n ≡ chosen_age (run (datum x) (person r))
@@ -37,7 +37,7 @@ module _ (r : Row640) (x : Data) (n own : ℕ) (age : x.age ≡ Given n) (sex : 
   barred e = simp (age, ne_eqb _ _ one, sex) (rw (ne_eqb _ _ e, chosen_age))
 
 pub returns-then-own-p : goal.returns-then-own-p
-returns-then-own-p c = allowed c.args.p c.args.d c.in-Given.months c.in-Given-sex.own c.in-Given.is c.in-Given-sex.is c.if-p-eq-BOTH.false c.if-own-p.true
+returns-then-own-p c = allowed c.args.p c.args.d c.in-Some.months c.in-Some-sex.own c.in-Some.is c.in-Some-sex.is c.if-p-eq-BOTH.false c.if-own-p.true
 
 pub returns : goal.returns
-returns c = barred c.args.p c.args.d c.in-Given.months c.in-Given-sex.own c.in-Given.is c.in-Given-sex.is c.if-p-eq-BOTH.false c.if-own-p.false
+returns c = barred c.args.p c.args.d c.in-Some.months c.in-Some-sex.own c.in-Some.is c.in-Some-sex.is c.if-p-eq-BOTH.false c.if-own-p.false

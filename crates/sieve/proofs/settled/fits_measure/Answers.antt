@@ -1,8 +1,8 @@
 -- Assumes nothing.
 use Rattle.sieve.proofs.settled.fits_measure.Goals as goal
 
-pub returns-in-Blank : goal.returns-in-Blank
-returns-in-Blank c = rw c.in-Blank.is
+pub returns-in-None : goal.returns-in-None
+returns-in-None c = rw c.in-None.is
 
-pub returns-in-Given : goal.returns-in-Given
-returns-in-Given c = rw (c.fits_measure.ensures, c.in-Given.is)
+pub returns-in-Some : goal.returns-in-Some
+returns-in-Some c = rw (c.fits_measure.ensures, c.in-Some.is)
