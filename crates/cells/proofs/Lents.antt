@@ -11,7 +11,7 @@ use Rattle.guideline.specs.Table.{some, number}
 use Rattle.guideline.specs.declared.rows.TableName.{TableName}
 use Rattle.guideline.specs.declared.rows.TableName.TheVariants.{T640, T641, T642, T643, T649, T730, T070}
 use Rattle.guideline.specs.declared.view.View.{View}
-use Rattle.guideline.specs.Rows.{Row, width, read_row, key}
+use Rattle.guideline.specs.Rows.{width, read_row, key}
 use Rattle.guideline.specs.Bytes.{cell}
 use Rattle.cells.specs.declared.Tally.{Tally}
 use Rattle.cells.specs.Tally.{tallied, told, Tallying}

@@ -16,8 +16,7 @@ pub struct Lent<'a, R: TableRow> {
 }
 
 impl<'a, R: TableRow> Clone for Lent<'a, R> {
-    fn clone(&self) -> Result<Lent<'a, R>, AllocError>
-    {
+    fn clone(&self) -> Result<Lent<'a, R>, AllocError> {
         Ok(*self)
     }
 }

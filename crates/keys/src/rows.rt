@@ -16,8 +16,7 @@ pub struct KeyRows<'a, R: TableRow> {
 }
 
 impl<'a, R: TableRow> Clone for KeyRows<'a, R> {
-    fn clone(&self) -> Result<KeyRows<'a, R>, AllocError>
-    {
+    fn clone(&self) -> Result<KeyRows<'a, R>, AllocError> {
         Ok(*self)
     }
 }
@@ -40,7 +39,6 @@ impl<'a, R: TableRow> KeyRows<'a, R> {
     pub fn rest(self, from: usize) -> KeyRows<'a, R>
         requires { from < self.view.rows }
         ensures { (result.bytes.now ≡ self.entry.bytes.now) × (result.view ≡ narrowed self.entry.view from self.entry.view.rows) × (result.key ≡ self.entry.key) }
-
     {
         let view = cells::narrow(self.view, from, self.view.rows);
         KeyRows {

@@ -5,7 +5,7 @@ use mathlib.Core.Bool.{Bool, true, false, ◌&&◌}
 use lib.Dec.{eqb}
 use Rattle.guideline.specs.declared.rows.Row730.{Row730}
 use Rattle.guideline.specs.declared.rows.TableName.TheVariants.{T730}
-use Rattle.guideline.specs.Table.{Hits, Table, among}
+use Rattle.guideline.specs.Table.{Table, among}
 use Rattle.guideline.specs.Rows.{keyed}
 use Rattle.guideline.specs.Steps.{unit_row}
 use Rattle.tables.specs.Tests.{of_unit}

@@ -4,7 +4,7 @@ use Rattle.tables.proofs.Asked.{tells_none, tells_one, tells_many}
 use Rattle.tables.proofs.ask.Goals as goal
 
 pub row-requires : goal.row-requires
-row-requires g c = c.tally-tally.ensures.inside (omega (arith, c.in-1.is))
+row-requires g c = let h = c.tally-tally.ensures.inside (omega (arith, c.in-1.is)) in omega (arith, h)
 
 pub returns-in-0 : goal.returns-in-0
 returns-in-0 g c p tests = tells_none c.args.rows p (c.tally-tally.ensures.tally p tests) c.in-0.is

@@ -1,5 +1,4 @@
 -- The first row with the key and the last bound the stretch. Assumes nothing.
-use Prim.Native.Nat.{◌≤◌}
 use native.Mathlib.Omega.{arith}
 use Rattle.cells.proofs.Views.{narrowed_first}
 use Rattle.keys.proofs.stretch.stretch.Goals as goal

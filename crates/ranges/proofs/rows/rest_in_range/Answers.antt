@@ -1,5 +1,5 @@
 -- The loop has found no row out of range among those that it has passed. Assumes nothing.
-use mathlib.Core.Path.{sym, ◌∙◌, ap}
+use mathlib.Core.Path.{sym, ◌∙◌}
 use native.Mathlib.Omega.{arith}
 use Rattle.ranges.proofs.RowByRow.{found_unsound, all_sound, one_tested}
 use Rattle.ranges.proofs.rows.rest_in_range.Goals as goal

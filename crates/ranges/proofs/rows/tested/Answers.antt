@@ -1,6 +1,5 @@
 -- The loop has found no row out of range among those that it has passed, and their keys rise. Assumes nothing.
-use Prim.Native.Nat.{◌+◌}
-use mathlib.Core.Path.{◌≡◌, refl, sym, ◌∙◌, ap}
+use mathlib.Core.Path.{◌≡◌, refl, sym, ◌∙◌}
 use native.Mathlib.Omega.{arith}
 use Rattle.keys.specs.Keys.{key_of}
 use Rattle.keys.specs.Rising.{rises}

@@ -1,5 +1,4 @@
 -- The loop has tallied the rows of the key that it has passed and that the test lets pass. Assumes nothing.
-use borrow.Author.Rules.{rules}
 use native.Mathlib.Omega.{arith}
 use mathlib.Core.Path.{sym, ◌∙◌, ap}
 use Rattle.cells.proofs.Tallied.{tallying_none}
