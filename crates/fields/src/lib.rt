@@ -1,176 +1,100 @@
-// The ranges of the fields, document 01's and the requests'.
+// The ranges of the fields, document 01's and the requests'. proofs/Ranges.antt says that they are the definitions'.
 #![tactic(auto)]
-
-ghost use Rattle.std.specs.Prelude.{◌≡◌};
-ghost use Rattle.guideline.specs.Values.{codes, codes_from_1, units, counts, counts_of_070, doses, limits, ages, weights, surfaces, sexes, sexes_of_640, risks, levels, care_groups, icpctos, positions, editions};
 
 use guideline::entries::Prescription;
 use guideline::range::Range;
-use guideline::rows::{Row640, Row641};
+use guideline::rows::{Row640, Row641, Row649};
 use guideline::setting::Setting;
 
 pub mod amount;
 
-const CODE: u32 = 99_999_999;
-
-const UNIT: u32 = 999_999;
-
-const COUNT: u32 = 999;
-
-const COUNT_OF_070: u32 = 999_999;
-
-const DOSE: u32 = 999_999_999;
-
-const AGE: u32 = 1_800;
-
-const WEIGHT: u32 = 999_999;
-
-const SURFACE: u32 = 9_999;
-
-pub fn codes() -> Range
-    ensures { result ≡ codes }
-{
-    Range { low: 0, high: CODE }
-}
+pub const CODES: Range = Range {
+    low: 0,
+    high: 99_999_999,
+};
 
 // GPDBAS, GPDCAT and GPDDNR, and a PRK or HPK that is given.
-pub fn codes_from_1() -> Range
-    ensures { result ≡ codes_from_1 }
-{
-    Range { low: 1, high: CODE }
-}
+pub const CODES_FROM_1: Range = Range {
+    low: 1,
+    high: CODES.high,
+};
 
-pub fn units() -> Range
-    ensures { result ≡ units }
-{
-    Range { low: 0, high: UNIT }
-}
+pub const UNITS: Range = Range {
+    low: 0,
+    high: 999_999,
+};
 
-pub fn counts() -> Range
-    ensures { result ≡ counts }
-{
-    Range {
-        low: 1,
-        high: COUNT,
-    }
-}
+pub const COUNTS: Range = Range { low: 1, high: 999 };
 
 // HPANPR, PRANGP and HPANGP, six digits wide.
-pub fn counts_of_070() -> Range
-    ensures { result ≡ counts_of_070 }
-{
-    Range {
-        low: 0,
-        high: COUNT_OF_070,
-    }
-}
+pub const COUNTS_OF_070: Range = Range {
+    low: 0,
+    high: 999_999,
+};
 
-pub fn doses() -> Range
-    ensures { result ≡ doses }
-{
-    Range { low: 1, high: DOSE }
-}
+pub const DOSES: Range = Range {
+    low: 1,
+    high: 999_999_999,
+};
 
 // The limits of table 649: 0 means no such limit.
-pub fn limits() -> Range
-    ensures { result ≡ limits }
-{
-    Range { low: 0, high: DOSE }
-}
+pub const LIMITS: Range = Range {
+    low: Row649::NO_LIMIT,
+    high: DOSES.high,
+};
 
-pub fn ages() -> Range
-    ensures { result ≡ ages }
-{
-    Range { low: 0, high: AGE }
-}
+pub const AGES: Range = Range {
+    low: 0,
+    high: 1_800,
+};
 
-pub fn weights() -> Range
-    ensures { result ≡ weights }
-{
-    Range {
-        low: 1,
-        high: WEIGHT,
-    }
-}
+pub const WEIGHTS: Range = Range {
+    low: 1,
+    high: 999_999,
+};
 
-pub fn surfaces() -> Range
-    ensures { result ≡ surfaces }
-{
-    Range {
-        low: 1,
-        high: SURFACE,
-    }
-}
+pub const SURFACES: Range = Range {
+    low: 1,
+    high: 9_999,
+};
 
-pub fn sexes() -> Range
-    ensures { result ≡ sexes }
-{
-    Range {
-        low: Row640::MAN,
-        high: Row640::WOMAN,
-    }
-}
+pub const SEXES: Range = Range {
+    low: Row640::MAN,
+    high: Row640::WOMAN,
+};
 
-pub fn sexes_of_640() -> Range
-    ensures { result ≡ sexes_of_640 }
-{
-    Range {
-        low: Row640::MAN,
-        high: Row640::BOTH,
-    }
-}
+pub const SEXES_OF_640: Range = Range {
+    low: Row640::MAN,
+    high: Row640::BOTH,
+};
 
-pub fn risks() -> Range
-    ensures { result ≡ risks }
-{
-    Range {
-        low: Row640::EMPTY,
-        high: Row640::NARROW,
-    }
-}
+pub const RISKS: Range = Range {
+    low: Row640::EMPTY,
+    high: Row640::NARROW,
+};
 
-pub fn levels() -> Range
-    ensures { result ≡ levels }
-{
-    Range {
-        low: Row641::BASE_LEVEL,
-        high: Row641::PRODUCT_LEVEL,
-    }
-}
+pub const LEVELS: Range = Range {
+    low: Row641::BASE_LEVEL,
+    high: Row641::PRODUCT_LEVEL,
+};
 
-pub fn care_groups() -> Range
-    ensures { result ≡ care_groups }
-{
-    Range {
-        low: Setting::INTENSIVE_CARE,
-        high: Setting::ALL_CARE,
-    }
-}
+pub const CARE_GROUPS: Range = Range {
+    low: Setting::INTENSIVE_CARE,
+    high: Setting::ALL_CARE,
+};
 
-pub fn icpctos() -> Range
-    ensures { result ≡ icpctos }
-{
-    Range {
-        low: Setting::WHOLE_REASON,
-        high: Setting::LAST_ICPCTO,
-    }
-}
+pub const ICPCTOS: Range = Range {
+    low: Setting::WHOLE_REASON,
+    high: Setting::LAST_ICPCTO,
+};
 
 // What a switch that is given may hold.
-pub fn positions() -> Range
-    ensures { result ≡ positions }
-{
-    Range {
-        low: Option<u32>::OFF,
-        high: Option<u32>::ON,
-    }
-}
+pub const POSITIONS: Range = Range {
+    low: Prescription::OFF,
+    high: Prescription::ON,
+};
 
-pub fn editions() -> Range
-    ensures { result ≡ editions }
-{
-    Range {
-        low: Prescription::FORMER,
-        high: Prescription::CURRENT,
-    }
-}
+pub const EDITIONS: Range = Range {
+    low: Prescription::FORMER,
+    high: Prescription::CURRENT,
+};

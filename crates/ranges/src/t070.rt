@@ -9,16 +9,16 @@ pub fn in_range(r: Row070) -> bool
     ensures { result ≡ sound_row T070 r }
 {
     guideline::both(
-        fields::codes_from_1().holds(r.hpkode),
+        fields::CODES_FROM_1.holds(r.hpkode),
         guideline::both(
-            fields::codes_from_1().holds(r.prkode),
+            fields::CODES_FROM_1.holds(r.prkode),
             guideline::both(
-                fields::counts_of_070().holds(r.hpanpr),
+                fields::COUNTS_OF_070.holds(r.hpanpr),
                 guideline::both(
-                    fields::codes_from_1().holds(r.gpkode),
+                    fields::CODES_FROM_1.holds(r.gpkode),
                     guideline::both(
-                        fields::counts_of_070().holds(r.prangp),
-                        fields::counts_of_070().holds(r.hpangp),
+                        fields::COUNTS_OF_070.holds(r.prangp),
+                        fields::COUNTS_OF_070.holds(r.hpangp),
                     ),
                 ),
             ),

@@ -4,4 +4,4 @@ use Rattle.ranges.proofs.t640.in_range.Goals as goal
 
 pub returns : goal.returns
 unfolding sound_row
-returns c = rw (c.both-2.ensures, c.both.ensures, c.holds-3.ensures, c.risks.ensures, c.holds-2.ensures, c.sexes_of_640.ensures, c.holds.ensures, c.codes.ensures)
+returns c = rw (c.both-2.ensures, c.both.ensures, c.holds-3.ensures, c.holds-2.ensures, c.holds.ensures)

@@ -4,4 +4,4 @@ use Rattle.ranges.proofs.t641.in_range.Goals as goal
 
 pub returns : goal.returns
 unfolding sound_row
-returns c = rw (c.both-4.ensures, c.both-3.ensures, c.both-2.ensures, c.both.ensures, c.holds-5.ensures, c.codes_from_1.ensures, c.holds-4.ensures, c.levels.ensures, c.holds-3.ensures, c.codes-3.ensures, c.holds-2.ensures, c.codes-2.ensures, c.holds.ensures, c.codes.ensures)
+returns c = rw (c.both-4.ensures, c.both-3.ensures, c.both-2.ensures, c.both.ensures, c.holds-5.ensures, c.holds-4.ensures, c.holds-3.ensures, c.holds-2.ensures, c.holds.ensures)

@@ -4,4 +4,4 @@ use Rattle.ranges.proofs.t642.in_range.Goals as goal
 
 pub returns : goal.returns
 unfolding sound_row
-returns c = rw (c.both-5.ensures, c.both-4.ensures, c.both-3.ensures, c.both-2.ensures, c.both.ensures, c.holds-6.ensures, c.codes_from_1-2.ensures, c.holds-5.ensures, c.codes-2.ensures, c.holds-4.ensures, c.icpctos.ensures, c.holds-3.ensures, c.codes.ensures, c.holds-2.ensures, c.care_groups.ensures, c.holds.ensures, c.codes_from_1.ensures)
+returns c = rw (c.both-5.ensures, c.both-4.ensures, c.both-3.ensures, c.both-2.ensures, c.both.ensures, c.holds-6.ensures, c.holds-5.ensures, c.holds-4.ensures, c.holds-3.ensures, c.holds-2.ensures, c.holds.ensures)

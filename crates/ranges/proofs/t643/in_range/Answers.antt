@@ -4,4 +4,4 @@ use Rattle.ranges.proofs.t643.in_range.Goals as goal
 
 pub returns : goal.returns
 unfolding sound_row
-returns c = rw (c.both-6.ensures, c.both-5.ensures, c.both-4.ensures, c.both-3.ensures, c.both-2.ensures, c.both.ensures, c.holds-4.ensures, c.codes_from_1-2.ensures, c.in_range-3.ensures, c.surface_bounds.ensures, c.in_range-2.ensures, c.weight_bounds.ensures, c.holds-3.ensures, c.units.ensures, c.holds-2.ensures, c.counts.ensures, c.in_range.ensures, c.age_bounds.ensures, c.holds.ensures, c.codes_from_1.ensures)
+returns c = rw (c.both-6.ensures, c.both-5.ensures, c.both-4.ensures, c.both-3.ensures, c.both-2.ensures, c.both.ensures, c.holds-4.ensures, c.in_range-3.ensures, c.surface_bounds.ensures, c.in_range-2.ensures, c.weight_bounds.ensures, c.holds-3.ensures, c.holds-2.ensures, c.in_range.ensures, c.age_bounds.ensures, c.holds.ensures)

@@ -4,4 +4,4 @@ use Rattle.ranges.proofs.t649.in_range.Goals as goal
 
 pub returns : goal.returns
 unfolding sound_row
-returns c = rw (c.both-3.ensures, c.both-2.ensures, c.both.ensures, c.holds-4.ensures, c.limits-3.ensures, c.holds-3.ensures, c.limits-2.ensures, c.holds-2.ensures, c.limits.ensures, c.holds.ensures, c.codes_from_1.ensures)
+returns c = rw (c.both-3.ensures, c.both-2.ensures, c.both.ensures, c.holds-4.ensures, c.holds-3.ensures, c.holds-2.ensures, c.holds.ensures)
