@@ -2,6 +2,8 @@
 ghost use Rattle.std.specs.Prelude.{◌≡◌};
 ghost use Rattle.guideline.specs.Values.{amount_in_range, amount_zero, amount_large};
 
+use guideline::rows::Row730;
+
 #[derive(Clone, Copy)]
 pub struct Amount {
     pub cdhoev: u64,
@@ -28,5 +30,13 @@ impl Amount {
         ensures { result ≡ amount_large self.cdhoev }
     {
         Amount::MOST_CONVERTED < self.cdhoev
+    }
+}
+
+impl From<Row730> for Amount {
+    ghost from_gives = { λ row amount. amount.cdhoev ≡ row.cdhoev };
+
+    fn from(row: Row730) -> Amount {
+        Amount { cdhoev: row.cdhoev }
     }
 }

@@ -1,15 +1,16 @@
 -- The tests of 127 and 128 are those of the definition, in its order. Assumes nothing.
+use Rattle.std.proofs.Common.{rules}
 use Rattle.units.specs.Converting.{of_amounts}
 use Rattle.units.proofs.exact.Goals as goal
 
-pub returns-then-zero : goal.returns-then-zero
+pub returns-then-either : goal.returns-then-either
 unfolding of_amounts
-returns-then-zero c = rw (← c.is_zero.ensures, ← c.is_zero-2.ensures, ← c.either-zero.ensures, c.if-zero.true)
+returns-then-either c = search rules
 
-pub returns-then-large : goal.returns-then-large
+pub returns-then-either-2 : goal.returns-then-either-2
 unfolding of_amounts
-returns-then-large c = rw (← c.is_zero.ensures, ← c.is_zero-2.ensures, ← c.either-zero.ensures, c.if-zero.false, ← c.is_large.ensures, ← c.is_large-2.ensures, ← c.either-large.ensures, c.if-large.true)
+returns-then-either-2 c = search rules
 
 pub returns : goal.returns
 unfolding of_amounts
-returns c = rw (← c.is_zero.ensures, ← c.is_zero-2.ensures, ← c.either-zero.ensures, c.if-zero.false, ← c.is_large.ensures, ← c.is_large-2.ensures, ← c.either-large.ensures, c.if-large.false)
+returns c = search rules

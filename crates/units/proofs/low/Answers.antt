@@ -1,12 +1,12 @@
 -- The norm minimum is compared by `below`. Assumes nothing.
-use mathlib.Core.Path.{sym, ◌∙◌}
+use Rattle.std.proofs.Common.{rules}
 use Rattle.guideline.specs.Steps.{low}
 use Rattle.units.proofs.low.Goals as goal
 
 pub returns-then-below : goal.returns-then-below
 unfolding low
-returns-then-below c = simp (sym c.below.ensures ∙ c.if-below.true)
+returns-then-below c = search rules
 
 pub returns : goal.returns
 unfolding low
-returns c = simp (sym c.below.ensures ∙ c.if-below.false)
+returns c = search rules

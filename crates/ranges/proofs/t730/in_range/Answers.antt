@@ -4,4 +4,4 @@ use Rattle.ranges.proofs.t730.in_range.Goals as goal
 
 pub returns : goal.returns
 unfolding sound_row
-returns c = rw (c.both-3.ensures, c.both-2.ensures, c.both.ensures, c.holds-3.ensures, c.in_range.ensures, c.amount_of.ensures, c.holds-2.ensures, c.holds.ensures)
+returns c = rw (c.both-3.ensures, c.both-2.ensures, c.both.ensures, c.holds-3.ensures, c.in_range.ensures, c.from.ensures, c.holds-2.ensures, c.holds.ensures)
