@@ -1,9 +1,5 @@
 -- What was found of a table is so. Assumes nothing.
 use borrow.Author.Rules.{rules}
-use mathlib.Core.Path.{◌≡◌, refl, sym, ◌∙◌, ap}
-use mathlib.Core.Bool.{Bool, true, false, cond}
-use Rattle.std.proofs.Common.{Result, Ok, Err, arith}
-use Rattle.guideline.specs.Lent.{lent}
 use Rattle.cells.specs.Lents.{shown}
 use Rattle.cells.proofs.Views.{rows_fit}
 use Rattle.ranges.specs.Soundly.{tested}
