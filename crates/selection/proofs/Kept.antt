@@ -18,7 +18,7 @@ use Rattle.guideline.specs.Steps.{of_care, of_reason, of_route, keep_care, keep_
 use Rattle.tables.specs.Found.{found642}
 use Rattle.tables.specs.Tests.{test642}
 use Rattle.tables.specs.declared.t642.Test642.TheVariants.{Care, Reason, Route}
-use Rattle.selection.specs.Chosen.{chosen642}
+use Rattle.guideline.specs.Results.{answered}
 use Rattle.selection.specs.Kept.{in_all_care, for_whole_reason, for_Q_general, by_no_route, care_kept, reason_kept, route_kept, route_found, by_found}
 
 module _ (t : Table Row642) where
@@ -94,13 +94,13 @@ module _ (t : Table Row642) where
       r = reason_kept t c
 
 -- "At the end none 113, several 123."
-found_setting : (d : Datum → Value) (h : Hits Row642) → by_found (found642 h) ≡ chosen642 (run d (one h NoSetting SettingSeveral))
+found_setting : (d : Datum → Value) (h : Hits Row642) → by_found (found642 h) ≡ answered (run d (one h NoSetting SettingSeveral))
 unfolding one choose refuse
 found_setting d None = refl
 found_setting d (One r) = refl
 found_setting d (Many n) = refl
 
-pub setting_kept : (d : Datum → Value) (t : Table Row642) (s : Setting) (basis : ℕ) → by_found (route_found (among (keyed T642 basis) t) (reason_kept (among (keyed T642 basis) t) (care_kept (among (keyed T642 basis) t) s))) ≡ chosen642 (run d (setting t s basis))
+pub setting_kept : (d : Datum → Value) (t : Table Row642) (s : Setting) (basis : ℕ) → by_found (route_found (among (keyed T642 basis) t) (reason_kept (among (keyed T642 basis) t) (care_kept (among (keyed T642 basis) t) s))) ≡ answered (run d (setting t s basis))
 unfolding setting
 setting_kept d t s basis =
-    found_setting d _ ∙ ap (λ (h : Hits Row642). chosen642 (run d (one h NoSetting SettingSeveral))) (sym (kept_rows (among (keyed T642 basis) t) s))
+    found_setting d _ ∙ ap (λ (h : Hits Row642). answered (run d (one h NoSetting SettingSeveral))) (sym (kept_rows (among (keyed T642 basis) t) s))

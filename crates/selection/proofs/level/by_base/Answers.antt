@@ -12,16 +12,16 @@ pub returns-in-Nothing : goal.returns-in-Nothing
 unfolding by_base refuse one choose
 returns-in-Nothing c d =
     let a = c.args in
-    rw (found_641 (among (keyed T641 a.gpk) (shown T641 a.t641.now a.v) base_level) c.ask-found.ensures c.in-Nothing.is)
+    rw (found_641 (among (keyed T641 a.gpk) (shown T641 a.t641.now a.v) base_level) c.ask.ensures c.in-Nothing.is)
 
 pub returns-in-One : goal.returns-in-One
 unfolding by_base refuse one choose
 returns-in-One c d =
     let a = c.args in
-    rw (found_641 (among (keyed T641 a.gpk) (shown T641 a.t641.now a.v) base_level) c.ask-found.ensures c.in-One.is)
+    rw (found_641 (among (keyed T641 a.gpk) (shown T641 a.t641.now a.v) base_level) c.ask.ensures c.in-One.is)
 
 pub returns-in-Many : goal.returns-in-Many
 unfolding by_base refuse one choose
 returns-in-Many c d =
     let a = c.args in
-    rw (found_641 (among (keyed T641 a.gpk) (shown T641 a.t641.now a.v) base_level) c.ask-found.ensures c.in-Many.is)
+    rw (found_641 (among (keyed T641 a.gpk) (shown T641 a.t641.now a.v) base_level) c.ask.ensures c.in-Many.is)

@@ -13,16 +13,16 @@ pub returns-in-Nothing : goal.returns-in-Nothing
 unfolding refuse choose
 returns-in-Nothing c =
     let a = c.args in
-    rw (found_641 (among (keyed T641 a.gpk) (shown T641 a.t641.now a.v) (test641 (Hpk a.hpk))) c.ask-found.ensures c.in-Nothing.is) c.by_prk.ensures
+    rw (found_641 (among (keyed T641 a.gpk) (shown T641 a.t641.now a.v) (test641 (Hpk a.hpk))) c.ask.ensures c.in-Nothing.is) c.by_prk.ensures
 
 pub returns-in-One : goal.returns-in-One
 unfolding refuse choose
 returns-in-One c =
     let a = c.args in
-    rw (found_641 (among (keyed T641 a.gpk) (shown T641 a.t641.now a.v) (test641 (Hpk a.hpk))) c.ask-found.ensures c.in-One.is)
+    rw (found_641 (among (keyed T641 a.gpk) (shown T641 a.t641.now a.v) (test641 (Hpk a.hpk))) c.ask.ensures c.in-One.is)
 
 pub returns-in-Many : goal.returns-in-Many
 unfolding refuse choose
 returns-in-Many c =
     let a = c.args in
-    rw (found_641 (among (keyed T641 a.gpk) (shown T641 a.t641.now a.v) (test641 (Hpk a.hpk))) c.ask-found.ensures c.in-Many.is)
+    rw (found_641 (among (keyed T641 a.gpk) (shown T641 a.t641.now a.v) (test641 (Hpk a.hpk))) c.ask.ensures c.in-Many.is)

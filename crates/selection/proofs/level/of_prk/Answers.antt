@@ -13,16 +13,16 @@ pub returns-in-Nothing : goal.returns-in-Nothing
 unfolding refuse choose
 returns-in-Nothing c d =
     let a = c.args in
-    rw (found_641 (among (keyed T641 a.gpk) (shown T641 a.t641.now a.v) (test641 (Prk a.prk))) c.ask-found.ensures c.in-Nothing.is) (c.by_base.ensures d)
+    rw (found_641 (among (keyed T641 a.gpk) (shown T641 a.t641.now a.v) (test641 (Prk a.prk))) c.ask.ensures c.in-Nothing.is) (c.by_base.ensures d)
 
 pub returns-in-One : goal.returns-in-One
 unfolding refuse choose
 returns-in-One c d =
     let a = c.args in
-    rw (found_641 (among (keyed T641 a.gpk) (shown T641 a.t641.now a.v) (test641 (Prk a.prk))) c.ask-found.ensures c.in-One.is)
+    rw (found_641 (among (keyed T641 a.gpk) (shown T641 a.t641.now a.v) (test641 (Prk a.prk))) c.ask.ensures c.in-One.is)
 
 pub returns-in-Many : goal.returns-in-Many
 unfolding refuse choose
 returns-in-Many c d =
     let a = c.args in
-    rw (found_641 (among (keyed T641 a.gpk) (shown T641 a.t641.now a.v) (test641 (Prk a.prk))) c.ask-found.ensures c.in-Many.is)
+    rw (found_641 (among (keyed T641 a.gpk) (shown T641 a.t641.now a.v) (test641 (Prk a.prk))) c.ask.ensures c.in-Many.is)

@@ -11,16 +11,16 @@ pub returns-in-Nothing : goal.returns-in-Nothing
 unfolding limits_of refuse one choose
 returns-in-Nothing c d =
     let a = c.args in
-    rw (found_649 (rows T649 a.t649.now (keyed T649 a.rule)) c.ask-found.ensures c.in-Nothing.is)
+    rw (found_649 (rows T649 a.t649.now (keyed T649 a.rule)) c.ask.ensures c.in-Nothing.is)
 
 pub returns-in-One : goal.returns-in-One
 unfolding limits_of refuse one choose
 returns-in-One c d =
     let a = c.args in
-    rw (found_649 (rows T649 a.t649.now (keyed T649 a.rule)) c.ask-found.ensures c.in-One.is)
+    rw (found_649 (rows T649 a.t649.now (keyed T649 a.rule)) c.ask.ensures c.in-One.is)
 
 pub returns-in-Many : goal.returns-in-Many
 unfolding limits_of refuse one choose
 returns-in-Many c d =
     let a = c.args in
-    rw (found_649 (rows T649 a.t649.now (keyed T649 a.rule)) c.ask-found.ensures c.in-Many.is)
+    rw (found_649 (rows T649 a.t649.now (keyed T649 a.rule)) c.ask.ensures c.in-Many.is)

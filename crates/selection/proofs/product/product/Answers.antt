@@ -18,16 +18,16 @@ pub returns-in-Nothing : goal.returns-in-Nothing
 unfolding product demand when refuse one choose ◌>>◌ ◌>>=◌
 returns-in-Nothing c d =
     let a = c.args in
-    rw (lt-ltb 0 a.gpk (omega arith), found_640 (rows T640 a.t640.now (keyed T640 a.gpk)) c.ask-found.ensures c.in-Nothing.is)
+    rw (lt-ltb 0 a.gpk (omega arith), found_640 (rows T640 a.t640.now (keyed T640 a.gpk)) c.ask.ensures c.in-Nothing.is)
 
 pub returns-in-One : goal.returns-in-One
 unfolding product demand when refuse one choose ◌>>◌ ◌>>=◌
 returns-in-One c d =
     let a = c.args in
-    rw (lt-ltb 0 a.gpk (omega arith), found_640 (rows T640 a.t640.now (keyed T640 a.gpk)) c.ask-found.ensures c.in-One.is)
+    rw (lt-ltb 0 a.gpk (omega arith), found_640 (rows T640 a.t640.now (keyed T640 a.gpk)) c.ask.ensures c.in-One.is)
 
 pub returns-in-Many : goal.returns-in-Many
 unfolding product demand when refuse one choose ◌>>◌ ◌>>=◌
 returns-in-Many c d =
     let a = c.args in
-    rw (lt-ltb 0 a.gpk (omega arith), found_640 (rows T640 a.t640.now (keyed T640 a.gpk)) c.ask-found.ensures c.in-Many.is)
+    rw (lt-ltb 0 a.gpk (omega arith), found_640 (rows T640 a.t640.now (keyed T640 a.gpk)) c.ask.ensures c.in-Many.is)
