@@ -1,25 +1,21 @@
 // P7, hosts on the former text set: the one place that knows editions. (That there are two is a range of the entry: 125.)
 ghost use Rattle.std.specs.Prelude.{◌≡◌};
-ghost use Rattle.guideline.specs.Edition.{signals, missing_frequency, former_signal, former_text, in_former, in_edition};
+ghost use Rattle.guideline.specs.Edition.{missing_frequency, former_signal, former_text, in_former, in_edition};
 
 use guideline::answer::Answer;
 use guideline::entries::Prescription;
 use guideline::range::Range;
 
 // "115, 116 or 117"
-fn signals() -> Range
-    ensures { result ≡ signals }
-{
-    Range {
-        low: 115,
-        high: 117,
-    }
-}
+const SIGNALS: Range = Range {
+    low: 115,
+    high: 117,
+};
 
 fn missing_frequency(n: u32) -> bool
     ensures { result ≡ missing_frequency n }
 {
-    signals().holds(n)
+    SIGNALS.holds(n)
 }
 
 // "Edition 1 gives 117"
@@ -45,11 +41,12 @@ fn former_text(answer: u32, text: u32) -> u32
 fn in_former(a: Answer) -> Answer
     ensures { result ≡ in_former a }
 {
-    let mut r = a;
-    r.answer = former_signal(a.answer);
-    r.text = former_text(a.answer, a.text);
-    r.suppressed = former_signal(a.suppressed);
-    r
+    Answer {
+        answer: former_signal(a.answer),
+        text: former_text(a.answer, a.text),
+        suppressed: former_signal(a.suppressed),
+        ..a
+    }
 }
 
 // An answer as edition 2 gives it, in the entry's edition.
