@@ -12,6 +12,7 @@ const SIGNALS: Range = Range {
     high: 117,
 };
 
+#[tactic(auto, unfolding(guideline::specs::Edition::missing_frequency))]
 fn missing_frequency(n: u32) -> bool
     ensures { result ≡ missing_frequency n }
 {
@@ -19,6 +20,7 @@ fn missing_frequency(n: u32) -> bool
 }
 
 // "Edition 1 gives 117"
+#[tactic(auto, unfolding(guideline::specs::Edition::former_signal))]
 fn former_signal(n: u32) -> u32
     ensures { result ≡ former_signal n }
 {
@@ -29,6 +31,7 @@ fn former_signal(n: u32) -> u32
 }
 
 // "with text 8"
+#[tactic(auto, unfolding(guideline::specs::Edition::former_text))]
 fn former_text(answer: u32, text: u32) -> u32
     ensures { result ≡ former_text answer text }
 {
@@ -38,6 +41,7 @@ fn former_text(answer: u32, text: u32) -> u32
     text
 }
 
+#[tactic(auto, unfolding(guideline::specs::Edition::in_former))]
 fn in_former(a: Answer) -> Answer
     ensures { result ≡ in_former a }
 {
@@ -50,6 +54,7 @@ fn in_former(a: Answer) -> Answer
 }
 
 // An answer as edition 2 gives it, in the entry's edition.
+#[tactic(auto, unfolding(guideline::specs::Edition::in_edition))]
 pub fn in_edition(edition: u32, a: Answer) -> Answer
     ensures { result ≡ in_edition edition a }
 {
