@@ -1,5 +1,6 @@
 // How a check ends before step 12.
 ghost use Rattle.std.specs.Prelude.{◌≡◌};
+ghost use Rattle.guideline.specs.declared.refusals.Refusal.TheVariants.{Asks};
 ghost use Rattle.guideline.specs.Ask.{no_refusal, asks_for};
 ghost use Rattle.guideline.specs.Steps.{nothing};
 ghost use Rattle.guideline.specs.Results.{stopped_at, answered_at};
@@ -93,6 +94,14 @@ impl Refusal {
         ensures { result ≡ no_refusal }
     {
         Refusal::Ends(Ending::EntryOutOfRange)
+    }
+}
+
+impl From<Question> for Refusal {
+    ghost from_gives = { λ question r. r ≡ Asks question };
+
+    fn from(question: Question) -> Refusal {
+        Refusal::Asks(question)
     }
 }
 

@@ -3,9 +3,13 @@ use Prim.Native.Nat.{ℕ, zero, suc, ◌+◌, ◌<◌, ◌≤◌}
 use mathlib.Core.List.{List, [], ◌∷◌, ◌++◌}
 use mathlib.Core.Path.{◌≡◌, refl, sym, ap, ◌∙◌}
 use native.Mathlib.Omega.{arith}
+use Rattle.std.proofs.Common.{append_assoc}
+use Rattle.std.proofs.lemmas.List.{drop-drop}
 use native.Mathlib.Nat.{add-zero, not-suc-le-zero}
 use lib.ListN.{length, set, get_or, length-set}
 use lib.Seq.{sets, get_or-set_same, get_or-set_other}
+use borrow.Rule.Slice.PartMut.{put_mid}
+use Rattle.std.proofs.lemmas.List.Edits.{sets-eq}
 
 pub sets_append : (l : List ℕ) (i : ℕ) (vs ws : List ℕ) → sets l i (vs ++ ws) ≡ sets (sets l i vs) (i + length vs) ws
 sets_append l i [] ws = ap (λ (m : ℕ). sets l m ws) (sym (add-zero i))
@@ -26,3 +30,7 @@ in_run l i (a ∷ vs) zero h j =
 in_run l i (a ∷ vs) (suc k) h j =
     let e : i + suc k ≡ suc i + k = omega arith in
     rw e (in_run (set l i a) (suc i) vs k (omega arith) (rw length-set (omega arith)))
+
+-- a run copied into its place is stored byte by byte
+pub put_mid_sets : (l : List ℕ) (at k : ℕ) (ys vs : List ℕ) → ys ≡ vs → k ≡ length vs → at + k ≤ length l → put_mid at k l ys ≡ sets l at vs
+put_mid_sets l at k ys vs e f h = rw (e, f, sets-eq vs l at (omega arith), drop-drop, append_assoc)
