@@ -3,7 +3,7 @@ ghost use Rattle.std.specs.Prelude.{◌≡◌};
 ghost use Rattle.guideline.specs.declared.refusals.Refusal.TheVariants.{Asks};
 ghost use Rattle.guideline.specs.Ask.{no_refusal};
 ghost use Rattle.guideline.specs.Steps.{nothing};
-ghost use Rattle.guideline.specs.Results.{stopped_at};
+ghost use Rattle.guideline.specs.Results.{stopped_at, answered_at};
 
 use crate::answer::Reached;
 use crate::rows::TableName;
@@ -94,6 +94,18 @@ impl From<Question> for Refusal {
 pub struct Stopped {
     pub why: Refusal,
     pub reached: Reached,
+}
+
+impl Reached {
+    // A step, where this is reached.
+    pub fn at<A>(self, step: Result<A, Refusal>) -> Result<A, Stopped>
+        ensures { result ≡ answered_at self step }
+    {
+        match step {
+            Ok(chosen) => Ok(chosen),
+            Err(why) => Err(Stopped { why, reached: self }),
+        }
+    }
 }
 
 // A step that is refused before the basis is chosen.
