@@ -8,7 +8,7 @@ use Rattle.std.proofs.lemmas.Result.{err_from_is_err_and}
 use Rattle.guideline.specs.declared.rows.Row649.{Row649}
 use Rattle.guideline.specs.declared.rows.TableName.TheVariants.{T640, T641, T642, T643, T649, T730, T070}
 use Rattle.guideline.specs.Ask.{run, no_data}
-use Rattle.guideline.specs.Bytes.{rows_of, spelled}
+use Rattle.guideline.specs.Bytes.{seen, rows_of, spelled}
 use Rattle.guideline.specs.Check.{from_step_2}
 use Rattle.guideline.specs.Entries.{datum, in_range, prescription_in_range}
 use Rattle.guideline.specs.Filling.{filling}
@@ -22,7 +22,7 @@ use Rattle.guideline.specs.Steps.{ratio, nothing, selection, over_sound}
 use Rattle.guideline.proofs.Answered.{chosen_of, refused_of}
 use Rattle.guideline.proofs.Ended.{stops, passes}
 use Rattle.guideline.proofs.Gives.{gives_table}
-use Rattle.cells.specs.Lents.{rows, shown}
+use Rattle.cells.specs.Lents.{rows, shown_by}
 use Rattle.keys.specs.declared.seen.AllSeen.{AllSeen}
 use Rattle.entry.proofs.Ranged.{prescription_fine}
 use Rattle.filling.proofs.InRange.{filling_in_range}
@@ -36,7 +36,7 @@ use Rattle.dosecheck.proofs.outcome.Goals as goal
 
 -- an entry in range is so after filling
 fine_after : (l : List ℕ) (e : Entry) {f : Entry} {r : Result Entry Refusal} → in_range e ≡ true → all_rows (sound_row T070) (rows T070 l) ≡ true → r ≡ answered (run no_data (filling (rows T070 l) e)) → r ≡ Ok f → prescription_in_range f.rest ≡ true
-unfolding shown
+unfolding shown_by seen
 fine_after l e {f} ranged sound_rows said chose =
     let t = rows T070 l in
     prescription_fine f (filling_in_range e f t (gives_table (sound_row T070) (rows_of T070 l) sound_rows) (chosen_of (run no_data (filling t e)) said chose) ∙ ranged)
@@ -59,7 +59,7 @@ fill-requires c =
     record { same = ap (λ (w : AllSeen). w.t070) k.2 }
 
 pub returns-in_err-f : goal.returns-in_err-f
-unfolding spelled shown
+unfolding spelled shown_by seen
 returns-in_err-f c =
     let b = lent c.args.t in
     let ranged = sym c.in_range.ensures ∙ c.if-not-in_range.false in
@@ -73,7 +73,7 @@ ratio-requires c =
     record { same = ap (λ (w : AllSeen). w.t730) k.2 }
 
 pub returns-in_err-ratio : goal.returns-in_err-ratio
-unfolding spelled shown from_step_2 over_sound
+unfolding spelled shown_by seen from_step_2 over_sound
 returns-in_err-ratio c =
     let b = lent c.args.t in
     let ranged = sym c.in_range.ensures ∙ c.if-not-in_range.false in
@@ -85,7 +85,7 @@ returns-in_err-ratio c =
     ∙ filled (spelled b) c.args.e ranged k.1 (chosen_of (run no_data (filling (rows T070 c.args.t.t070.now) c.args.e)) (c.fill.ensures no_data) c.in_ok-f.was))
 
 pub select-requires : goal.select-requires
-unfolding spelled shown
+unfolding spelled shown_by seen
 select-requires c =
     let b = lent c.args.t in
     let x = c.args.t in
@@ -97,7 +97,7 @@ select-requires c =
     (answered_in_range d (rows T730 x.t730.now) f.rest (sym (c.ratio.ensures d) ∙ c.in_ok-ratio.was), record { prescription = fine; limits = all_sound b told T649 }, record { same = ap (λ (w : AllSeen). w.t640) see }, record { same = ap (λ (w : AllSeen). w.t641) see }, record { same = ap (λ (w : AllSeen). w.t642) see }, record { same = ap (λ (w : AllSeen). w.t643) see }, record { same = ap (λ (w : AllSeen). w.t649) see })
 
 pub returns-in_err-s : goal.returns-in_err-s
-unfolding spelled shown from_step_2 over_sound selection
+unfolding spelled shown_by seen from_step_2 over_sound selection
 returns-in_err-s c =
     let b = lent c.args.t in
     let ranged = sym c.in_range.ensures ∙ c.if-not-in_range.false in
@@ -110,7 +110,7 @@ returns-in_err-s c =
     ∙ filled (spelled b) c.args.e ranged k.1 (chosen_of (run no_data (filling (rows T070 c.args.t.t070.now) c.args.e)) (c.fill.ensures no_data) c.in_ok-f.was))
 
 pub compare-requires : goal.compare-requires
-unfolding spelled shown
+unfolding spelled shown_by seen
 compare-requires c =
     let b = lent c.args.t in
     let told = sym c.in_ok-w.was ∙ c.requires in
@@ -122,7 +122,7 @@ compare-requires c =
     comparable f.rest c.in_ok-s.s (subst Amounts (sym kept.1) (answered_in_range d (rows T730 x.t730.now) f.rest (sym (c.ratio.ensures d) ∙ c.in_ok-ratio.was))) fine kept.0
 
 pub returns : goal.returns
-unfolding spelled shown from_step_2 over_sound selection
+unfolding spelled shown_by seen from_step_2 over_sound selection
 returns c =
     let b = lent c.args.t in
     let ranged = sym c.in_range.ensures ∙ c.if-not-in_range.false in
