@@ -1,20 +1,21 @@
 -- Lines in the pieces in which they are written. Assumes nothing.
-use Prim.Native.Nat.{ℕ, suc, ◌+◌, ◌*◌, ◌/◌, ◌%◌, ◌<◌, ◌≤◌}
+use Prim.Native.Nat.{ℕ, suc, ◌+◌, ◌*◌, ◌-◌, ◌/◌, ◌%◌, ◌<◌, ◌≤◌}
 use mathlib.Core.List.{List, [], ◌∷◌, ◌++◌}
 use mathlib.Core.Path.{◌≡◌, refl, ◌∙◌}
 use native.Mathlib.Omega.{arith}
 use native.Mathlib.Numerals.{add-one}
-use lib.ListN.{length, get_or, set, drop, drop_of_length-le, length-append}
+use lib.ListN.{length, get_or, set, take, drop, drop_of_length-le, length-append}
 use lib.Seq.{sets, drop-cons}
 use Rattle.decimals.specs.Decimal.{space, line_feed, field}
 use Rattle.decimals.specs.Put.{Put}
 use Rattle.decimals.proofs.Puts.{sets_append}
 use Rattle.records.specs.Layout.{refused}
-use Rattle.records.specs.File.{File}
+use Rattle.records.specs.Digits.{chars}
+use Rattle.records.specs.File.{File, reading}
 use Rattle.records.specs.Numbers.{read_refusal, read_numbers}
 use Rattle.records.specs.declared.ReadRefusal.{ReadRefusal}
 use Rattle.records.specs.declared.ReadRefusal.TheVariants.{Length, Fixed, Digit, Mutation}
-use Rattle.call_lines.specs.Lines.{spaced, read_line, hex_digit, hex}
+use Rattle.call_lines.specs.Lines.{front, spaced, read_line, read_call, hex_digit, hex}
 
 -- a turn of the loop that writes two digits for a byte
 pub hex_turn : (b l : List ℕ) (end i high low : ℕ) → i < length l → high ≡ hex_digit (get_or l i 0 / 16) → low ≡ hex_digit (get_or l i 0 % 16) →
@@ -64,3 +65,11 @@ refused_line f Length = refl
 refused_line f Fixed = refl
 refused_line f Digit = refl
 refused_line f Mutation = refl
+
+-- and the line of a call whose bytes a reader refused
+pub read_refused : {Record : Type 0} (f : File Record) (s : List ℕ) (n number : ℕ) (e : ReadRefusal) → refused (read_refusal e) ≡ reading f (take (front + n - front) (drop front s)) → number ≡ read_refusal e →
+    read_call f s n ≡ field number line_feed
+read_refused f s n number e h is =
+    let k : front + n - front ≡ n = omega arith in
+    let r : refused (read_refusal e) ≡ reading f (chars s front n) = rw k at h in
+    rw (← r, is) (refused_line f e)

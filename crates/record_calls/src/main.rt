@@ -37,11 +37,7 @@ fn gather<R: Read>(
 {
     let more = reader.read(&mut input[have..])?;
     if more == 0 {
-        return Ok(ControlFlow::Break(call_stream::finish(
-            &input[..have],
-            out,
-            at,
-        )));
+        return Ok(ControlFlow::Break(call_stream::finish(&input[..have], out, at)));
     }
     Ok(ControlFlow::Continue(Gathered {
         from: 0,
@@ -60,7 +56,11 @@ fn next_call<R: Read>(
     ensures ok { IfOk result (Inside (length input.new) (length out.new)) }
     ensures err { OnErr result (out.new ≡ out.old) }
 {
-    let Gathered { from, have, end: at } = gathered;
+    let Gathered {
+        from,
+        have,
+        end: at,
+    } = gathered;
     match call_stream::take_call(&mut input[from..have], out, at) {
         Taken::Answered(spans) => Ok(ControlFlow::Continue(Gathered {
             from: from + spans.call,

@@ -3,14 +3,13 @@ use Prim.Native.Nat.{ℕ, ◌≤◌}
 use mathlib.Core.Bool.{true}
 use mathlib.Core.List.{List}
 use mathlib.Core.Path.{◌≡◌, ap}
-use native.Mathlib.Omega.{arith}
 use Rattle.records.specs.Layout.{Reading, said, refused, read_by, scan, Within}
 use Rattle.records.specs.File.{File, reading, writable}
 use Rattle.records.proofs.Fitting.{within_fits, fits_within}
 use Rattle.records.proofs.LayoutLaws.{scan_refuses}
 
 refused_by : {A B : Type 0} (g : A → B) (x : Reading A) (n : ℕ) → read_by g x ≡ refused n → x ≡ refused n
-refused_by g (said v) n e = absurd (let z : ◌≡◌ {A = ℕ} 0 1 = cc in let y : ⊥ = omega arith in y)
+refused_by g (said v) n e = absurd cc
 refused_by g (refused m) n e = let q : m ≡ n = cc in ap refused q
 
 module _ {Record : Type 0} (f : File Record) where

@@ -3,7 +3,6 @@ use Prim.Native.Nat.{ℕ}
 use mathlib.Core.Bool.{true, false}
 use mathlib.Core.List.{List}
 use mathlib.Core.Path.{◌≡◌, refl, sym}
-use native.Mathlib.Omega.{arith}
 use Rattle.std.specs.Prelude.{Ok, Err}
 use Rattle.records.specs.Layout.{Part, text, mutation, number, digit_part, value}
 use Rattle.records.specs.Parts.{to_number, number_of}
@@ -18,6 +17,6 @@ number_said mutation c n e = (sym (field_digits c n e), sym (field_said c n e))
 number_said (number k) c n e = (sym (field_digits c n e), sym (field_said c n e))
 
 pub number_refused : (p : Part) (c : List ℕ) (e : ReadRefusal) → number_of p c ≡ Err e → (false ≡ digit_part p c) × (e ≡ Digit)
-number_refused (text t) c e h = absurd (let z : ◌≡◌ {A = ℕ} 0 1 = cc in let y : ⊥ = omega arith in y)
+number_refused (text t) c e h = absurd cc
 number_refused mutation c e h = (sym (field_none c e h), refused_digit c e h)
 number_refused (number k) c e h = (sym (field_none c e h), refused_digit c e h)

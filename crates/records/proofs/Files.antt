@@ -2,7 +2,6 @@
 use Prim.Native.Nat.{ℕ}
 use mathlib.Core.List.{List}
 use mathlib.Core.Path.{◌≡◌, sym, ap}
-use native.Mathlib.Omega.{arith}
 use Rattle.records.specs.Layout.{Part, Values, Reading, said, refused, read_by, scan}
 use Rattle.records.specs.File.{File, reading}
 use Rattle.records.specs.Parts.{to_numbers, from_numbers}
@@ -10,10 +9,10 @@ use Rattle.records.proofs.LayoutLaws.{from_to_numbers}
 
 values_said : (ps : List Part) (x : Reading (Values ps)) (n : List ℕ) → said n ≡ read_by (to_numbers ps) x → x ≡ said (from_numbers ps 0 n)
 values_said ps (said v) n e = let q : n ≡ to_numbers ps v = cc in ap said (rw q (sym (from_to_numbers ps v)))
-values_said ps (refused k) n e = absurd (let z : ◌≡◌ {A = ℕ} 0 1 = cc in let y : ⊥ = omega arith in y)
+values_said ps (refused k) n e = absurd cc
 
 refused_by : {A B C : Type 0} (g : A → B) (h : A → C) (x : Reading A) (k : ℕ) → refused k ≡ read_by g x → refused k ≡ read_by h x
-refused_by g h (said v) k e = absurd (let z : ◌≡◌ {A = ℕ} 0 1 = cc in let y : ⊥ = omega arith in y)
+refused_by g h (said v) k e = absurd cc
 refused_by g h (refused m) k e = let q : k ≡ m = cc in ap refused q
 
 module _ {Record : Type 0} (f : File Record) (s : List ℕ) where

@@ -84,7 +84,7 @@ from_to_numbers ps v = from_to_behind ps v [] 0 refl
 
 pub unless_said : {A : Type 0} (b : Bool) (n : ℕ) (next : Reading A) (v : A) → unless b (refused n) next ≡ said v → (b ≡ true) × (next ≡ said v)
 unless_said true n next v h = (refl, h)
-unless_said false n next v h = absurd (let z : ◌≡◌ {A = ℕ} 0 1 = cc in let y : ⊥ = omega arith in y)
+unless_said false n next v h = absurd cc
 
 pub said_same : {A : Type 0} (v w : A) → ◌≡◌ {A = Reading A} (said v) (said w) → v ≡ w
 said_same v w h = cc
@@ -117,4 +117,4 @@ scan_refuses ps s n = go (eqb (length s) (total ps)) (every fixed_part ps 0 s) (
     go true false c d e = one_of 202 (omega arith) (omega arith) e
     go true true false d e = one_of 203 (omega arith) (omega arith) e
     go true true true false e = one_of 204 (omega arith) (omega arith) e
-    go true true true true e = absurd (let z : ◌≡◌ {A = ℕ} 0 1 = cc in let y : ⊥ = omega arith in y)
+    go true true true true e = absurd cc

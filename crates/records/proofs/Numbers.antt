@@ -64,10 +64,10 @@ said_below l e = omega (arith, horner_below 0 1 l (omega arith) e)
 
 field_split : (b : Bool) (m n : ℕ) → unless b (Err Digit) (Ok m) ≡ Ok n → (b ≡ true) × (m ≡ n)
 field_split true m n e = (refl, cc)
-field_split false m n e = absurd (let z : ◌≡◌ {A = ℕ} 0 1 = cc in let y : ⊥ = omega arith in y)
+field_split false m n e = absurd cc
 
 field_lost : (b : Bool) (m : ℕ) (e : ReadRefusal) → unless b (Err Digit) (Ok m) ≡ Err e → (b ≡ false) × (e ≡ Digit)
-field_lost true m e h = absurd (let z : ◌≡◌ {A = ℕ} 0 1 = cc in let y : ⊥ = omega arith in y)
+field_lost true m e h = absurd cc
 field_lost false m e h = (refl, cc)
 
 -- what a field that was read tells of its characters
@@ -79,9 +79,6 @@ module _ (l : List ℕ) (n : ℕ) (e : field_of l ≡ Ok n) where
   pub field_said : horner 0 l ≡ n
   unfolding field_of
   field_said = (field_split (digits_only l) (horner 0 l) n e).1
-
-  pub field_below : (k : ℕ) → length l ≡ k → n < 10 ^ k
-  field_below k h = rw (← field_said, ← h) (said_below l field_digits)
 
 -- and one that was refused
 module _ (l : List ℕ) (e : ReadRefusal) (h : field_of l ≡ Err e) where

@@ -21,7 +21,7 @@ same_refl [] = refl
 same_refl (a ∷ t) = and_both (eqb a a) (same t t) (eq-eqb a a refl) (same_refl t)
 
 no : {A : Type 0} → false ≡ true → A
-no e = absurd (let z : ◌≡◌ {A = ℕ} 0 1 = cc in let y : ⊥ = omega arith in y)
+no e = absurd cc
 
 same_eq : (t c : List ℕ) → same t c ≡ true → t ≡ c
 same_eq [] [] e = refl

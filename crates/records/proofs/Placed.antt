@@ -14,8 +14,8 @@ use Rattle.records.proofs.Spelling.{length_spell}
 
 split : (b c : Bool) → ◌≡◌ {A = ℕ} (unless b 205 (unless c 206 0)) 0 → (b ≡ true) × (c ≡ true)
 split true true e = (refl, refl)
-split true false e = absurd (let y : ⊥ = omega arith in y)
-split false c e = absurd (let y : ⊥ = omega arith in y)
+split true false e = absurd (omega arith)
+split false c e = absurd (omega arith)
 
 module _ (ps : List Part) (v : Values ps) (at : ℕ) (old : List ℕ) where
   pub too_wide_leaves : answer ps v at (length old) ≡ 205 → leaving ps v at old ≡ old

@@ -42,8 +42,8 @@ digits_are_digits (suc k) n = only_last (digits k (n / 10)) (48 + n % 10) (omega
 -- two runs of digits of one length that say the same are the same
 said_once : (a b : ℕ) (l m : List ℕ) → length l ≡ length m → digits_only l ≡ true → digits_only m ≡ true → horner a l ≡ horner b m → (a ≡ b) × (l ≡ m)
 said_once a b [] [] h d e q = (q, refl)
-said_once a b [] (y ∷ m) h d e q = absurd (let z : ⊥ = omega arith in z)
-said_once a b (x ∷ l) [] h d e q = absurd (let z : ⊥ = omega arith in z)
+said_once a b [] (y ∷ m) h d e q = absurd (omega arith)
+said_once a b (x ∷ l) [] h d e q = absurd (omega arith)
 said_once a b (x ∷ l) (y ∷ m) h d e q =
     let p = digit_split x l d in
     let r = digit_split y m e in

@@ -39,7 +39,7 @@ module _ {R : Type 0} (ps : List Part) (g : Values ps → R) (s : List ℕ) wher
 
 -- what the answer of one test, among a refusal and what follows, tells of it
 pub lacking : {A : Type 0} (b : Bool) (m n : ℕ) (v : A) → refused n ≡ unless b (refused m) (said v) → (b ≡ false) × (n ≡ m)
-lacking true m n v e = absurd (let z : ◌≡◌ {A = ℕ} 0 1 = cc in let y : ⊥ = omega arith in y)
+lacking true m n v e = absurd cc
 lacking false m n v e = (refl, cc)
 
 -- numbers that were read: each part had digits, and what then does not fit is the mutation digit

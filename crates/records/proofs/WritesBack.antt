@@ -3,7 +3,6 @@ use Prim.Native.Nat.{ℕ, ◌+◌, ◌≤◌}
 use mathlib.Core.Bool.{true}
 use mathlib.Core.List.{List}
 use mathlib.Core.Path.{◌≡◌, ap, sym, ◌∙◌}
-use native.Mathlib.Omega.{arith}
 use borrow.Author.Tests.{le-leb}
 use lib.ListN.{length}
 use Rattle.records.specs.Digits.{chars}
@@ -17,7 +16,7 @@ module _ {Record : Type 0} (f : File Record) where
   scanned (said v) r e =
       let q : f.record_of v ≡ r = cc in
       ap said (sym (f.values_back v)) ∙ ap (λ (x : Record). said (f.values_of x)) q
-  scanned (refused n) r e = absurd (let z : ◌≡◌ {A = ℕ} 0 1 = cc in let y : ⊥ = omega arith in y)
+  scanned (refused n) r e = absurd cc
 
   module _ (s : List ℕ) (r : Record) (read : reading f s ≡ said r) where
     back : (fits f.layout (f.values_of r) ≡ true) × (◌≡◌ {A = List ℕ} (chars_of f r) s)

@@ -5,12 +5,11 @@ use mathlib.Core.Path.{◌≡◌, refl}
 use lib.ListN.{length, length-append}
 use lib.Seq.{sets}
 use native.Mathlib.Omega.{arith}
-use Rattle.decimals.specs.Decimal.{space, line_feed, field}
+use Rattle.decimals.specs.Decimal.{space, line_feed, digits, field}
 use Rattle.records.specs.Ascii.{ascii}
-use Rattle.records.specs.Digits.{digits}
 use Rattle.records.specs.Layout.{said, refused}
 use Rattle.records_730.specs.declared.Record730.{Record730}
-use Rattle.records.proofs.Stores.{length_digits}
+use Rattle.decimals.proofs.Decimal.{length_digits}
 use Rattle.decimals.specs.Put.{Put}
 use Rattle.unit_line.specs.Line.{point, amount, line}
 

@@ -1,8 +1,7 @@
 -- The line of the unit list for what was read of a record (document 01, "Record 730"). Assumes nothing.
 use Rattle.std.specs.Prelude.{ℕ, ◌/◌, ◌%◌, List, [], ◌∷◌, ◌++◌}
-use Rattle.decimals.specs.Decimal.{space, line_feed, field}
+use Rattle.decimals.specs.Decimal.{space, line_feed, digits, field}
 use Rattle.records.specs.Ascii.{ascii}
-use Rattle.records.specs.Digits.{digits}
 use Rattle.records.specs.Layout.{Reading, said, refused}
 use Rattle.records_730.specs.declared.Record730.{Record730}
 

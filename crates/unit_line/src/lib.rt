@@ -8,9 +8,8 @@ ghost use Rattle.records.specs.Layout.{said, refused};
 ghost use Rattle.records.specs.Numbers.{read_refusal, says};
 ghost use Rattle.unit_line.specs.Line.{amount, line};
 
-use decimals::{LINE_FEED, SPACE, put_field, put_text};
+use decimals::{LINE_FEED, SPACE, put_digits, put_field, put_text};
 use records::ReadRefusal;
-use records::parts::put_digits;
 use records_730::Record730;
 
 const POINT: u8 = b'.';

@@ -4,11 +4,10 @@ use mathlib.Core.List.{List, [], ◌∷◌, ◌++◌}
 use mathlib.Core.Path.{◌≡◌, refl}
 use lib.ListN.{replicate}
 use Rattle.records.specs.Ascii.{ascii}
-use Rattle.records.specs.Digits.{digits}
 use Rattle.records.specs.File.{reading}
 use Rattle.records.specs.Layout.{every, values, numbers, scan}
 use Rattle.records_730.specs.File730.{file_730}
-use Rattle.decimals.specs.Decimal.{decimal, decimals, field}
+use Rattle.decimals.specs.Decimal.{decimal, decimals, digits, field}
 use Rattle.unit_line.specs.Line.{amount, line}
 use Rattle.unit_lines.specs.Records.{split, records_of, line_of, lines_of, unit_list}
 

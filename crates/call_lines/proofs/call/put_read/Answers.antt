@@ -2,7 +2,7 @@
 use native.Mathlib.Omega.{arith}
 use Rattle.decimals.specs.Decimal.{line_feed}
 use Rattle.decimals.proofs.Decimal.{field_64}
-use Rattle.call_lines.proofs.Parts.{read_refused}
+use Rattle.call_lines.proofs.Lining.{read_refused}
 use Rattle.call_lines.proofs.call.put_read.Goals as goal
 
 pub returns-in-Err : goal.returns-in-Err
