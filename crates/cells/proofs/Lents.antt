@@ -11,34 +11,37 @@ use Rattle.guideline.specs.Table.{some, number}
 use Rattle.guideline.specs.declared.rows.TableName.{TableName}
 use Rattle.guideline.specs.declared.rows.TableName.TheVariants.{T640, T641, T642, T643, T649, T730, T070}
 use Rattle.guideline.specs.declared.view.View.{View}
-use Rattle.guideline.specs.Rows.{Row, width, read_row, key}
-use Rattle.guideline.specs.Bytes.{seen}
+use Rattle.guideline.specs.Rows.{width, read_row, key}
+use Rattle.guideline.specs.Bytes.{cell}
 use Rattle.cells.specs.declared.Tally.{Tally}
 use Rattle.cells.specs.Tally.{tallied, told, Tallying}
-use Rattle.cells.specs.Lents.{shown, row_at, tally_of, key_at}
+use Rattle.cells.specs.Lents.{shown_by, tally_by, key_at}
 use Rattle.cells.proofs.Tallied.{hits_tallied, some_told, number_told, counted_once, tallying_all}
 
 -- what the tally tells of the rows
-module _ (n : TableName) (l : List ℕ) (v : View) (p : Row n → Bool) where
-  pub rows_told : {t : Tally} → t ≡ tally_of n l v p → shown n l v p ≡ told t.count (row_at n l v t.last)
-  unfolding shown seen
-  rows_told e = rw e (hits_tallied p (row_at n l v) v.rows)
+module _ {A : Type 0} (read : (ℕ → ℕ) → A) (l : List ℕ) (v : View) (p : A → Bool) where
+  abbrev at : ℕ → A
+  at i = read (cell l v i)
 
-  pub rows_some : {t : Tally} → t ≡ tally_of n l v p → some (shown n l v p) ≡ not (eqb t.count 0)
-  rows_some {t} e = ap some (rows_told e) ∙ some_told t.count (row_at n l v t.last)
+  pub rows_told : {t : Tally} → t ≡ tally_by read l v p → shown_by read l v p ≡ told t.count (at t.last)
+  unfolding shown_by
+  rows_told e = rw e (hits_tallied p at v.rows)
+
+  pub rows_some : {t : Tally} → t ≡ tally_by read l v p → some (shown_by read l v p) ≡ not (eqb t.count 0)
+  rows_some {t} e = ap some (rows_told e) ∙ some_told t.count (at t.last)
 
   -- a row with the property is there; no row that a loop has passed has it
-  pub rows_found : (i : ℕ) → i < v.rows → p (row_at n l v i) ≡ true → some (shown n l v p) ≡ true
+  pub rows_found : (i : ℕ) → i < v.rows → p (at i) ≡ true → some (shown_by read l v p) ≡ true
   rows_found i below hit =
-      let h : ℕ → Bool = λ j. p (row_at n l v j) in
+      let h : ℕ → Bool = λ j. p (at j) in
       let more : 0 < (tallied h v.rows).count = counted_once h i v.rows below hit in
       rows_some refl ∙ ap not (ne_eqb (tallied h v.rows).count 0 (λ z. let y : (tallied h v.rows).count ≡ 0 = z in omega arith))
 
-  pub rows_missed : {i : ℕ} → Tallying (λ j. p (row_at n l v j)) v.rows i 0 0 → v.rows ≤ i → some (shown n l v p) ≡ false
-  rows_missed k all = rows_some (tallying_all (λ j. p (row_at n l v j)) k all)
+  pub rows_missed : {i : ℕ} → Tallying (λ j. p (at j)) v.rows i 0 0 → v.rows ≤ i → some (shown_by read l v p) ≡ false
+  rows_missed k all = rows_some (tallying_all (λ j. p (at j)) k all)
 
-  pub rows_number : {t : Tally} → t ≡ tally_of n l v p → number (shown n l v p) ≡ t.count
-  rows_number {t} e = ap number (rows_told e) ∙ number_told t.count (row_at n l v t.last)
+  pub rows_number : {t : Tally} → t ≡ tally_by read l v p → number (shown_by read l v p) ≡ t.count
+  rows_number {t} e = ap number (rows_told e) ∙ number_told t.count (at t.last)
 
 -- a row has at most sixteen numbers
 pub width_most : (n : TableName) → width n ≤ 16

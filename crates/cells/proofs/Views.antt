@@ -6,17 +6,15 @@ use native.Mathlib.Nat.{add-mul, mul_assoc, mul-le-mul_right, div-le_self, div-m
 use native.Mathlib.Omega.{arith}
 use lib.ListN.{length}
 use Rattle.numbers.specs.Words.{word}
-use Rattle.guideline.specs.declared.rows.TableName.{TableName}
 use Rattle.guideline.specs.declared.view.View.{View}
-use Rattle.guideline.specs.Rows.{width}
-use Rattle.guideline.specs.Bytes.{place, cell, rows_in, by_rows}
-use Rattle.cells.specs.Views.{Fits, narrowed}
+use Rattle.guideline.specs.Bytes.{place, cell, rows_in}
+use Rattle.cells.specs.Views.{Fits, by_width, narrowed}
 
 pub fits_less : {w n : ℕ} {v : View} (m : ℕ) → m ≤ w → Fits w v n → Fits m v n
 fits_less m less f = record { inside = λ i k row in_row. f.inside i k row (omega arith); end = f.end; few = f.few }
 
-pub rows_fit : (n : TableName) (l : List ℕ) → Fits (width n) (by_rows n l) (length l)
-rows_fit n l =
+pub rows_fit : (w : ℕ) (l : List ℕ) → Fits w (by_width w l) (length l)
+rows_fit w l =
     record {
       inside = λ i k row in_row.
           let a : (i + 1) * (w * 4) ≤ r * (w * 4) = mul-le-mul_right (w * 4) (omega arith) in
@@ -27,9 +25,6 @@ rows_fit n l =
       few = div-le_self (length l) (w * 4);
     }
   where
-    w : ℕ
-    w = width n
-
     r : ℕ
     r = rows_in w l
 

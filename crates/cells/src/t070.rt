@@ -1,29 +1,42 @@
 // Table 70: HPKODE, PRKODE, HPANPR, GPKODE, PRANGP, HPANGP.
-ghost use Rattle.std.specs.Prelude.{◌≡◌, ◌<◌, length};
 ghost use Rattle.guideline.specs.declared.rows.TableName.TheVariants.{T070};
-ghost use Rattle.guideline.specs.Rows.{width};
-ghost use Rattle.cells.specs.Views.{Fits};
-ghost use Rattle.cells.specs.Lents.{row_at};
+ghost use Rattle.guideline.specs.Rows.{width, read_row, keyed};
+ghost use Rattle.cells.specs.Lents.{key_at};
+ghost use Rattle.cells.specs.Keyed.{keyed_read};
+ghost use Rattle.std.proofs.Common.{rules};
 
+use crate::row::TableRow;
 use guideline::rows::Row070;
 use guideline::view::View;
 
-// How many numbers of 32 bits a row has.
-pub const WIDTH: usize = 6;
+impl TableRow for Row070 {
+    ghost read = { read_row T070 };
 
-// Which of them is HPKODE, the key.
-pub const KEY: usize = 0;
+    ghost keyed = { keyed T070 };
 
-pub fn row(t: &[u8], v: View, row: usize) -> Row070
-    requires { Fits (width T070) v (length t.now) × (row < v.rows) }
-    ensures { result ≡ row_at T070 t.now v row }
-{
-    Row070 {
-        hpkode: crate::cell(t, v, row, 0),
-        prkode: crate::cell(t, v, row, 1),
-        hpanpr: crate::cell(t, v, row, 2),
-        gpkode: crate::cell(t, v, row, 3),
-        prangp: crate::cell(t, v, row, 4),
-        hpangp: crate::cell(t, v, row, 5),
+    ghost WIDTH = { width T070 };
+
+    ghost KEY = { key_at T070 };
+
+    const WIDTH: usize = 6;
+
+    // HPKODE.
+    const KEY: usize = 0;
+
+    fn row(t: &[u8], v: View, row: usize) -> Row070 {
+        Row070 {
+            hpkode: crate::cell(t, v, row, 0),
+            prkode: crate::cell(t, v, row, 1),
+            hpanpr: crate::cell(t, v, row, 2),
+            gpkode: crate::cell(t, v, row, 3),
+            prangp: crate::cell(t, v, row, 4),
+            hpangp: crate::cell(t, v, row, 5),
+        }
     }
+
+    ghost keyed_read = { keyed_read T070 };
+
+    ghost key_inside = { Prim.search rules };
+
+    ghost width_most = { Prim.search rules };
 }

@@ -1,21 +1,21 @@
 -- Asked about rows with its key, a stretch answers as the view does. Assumes nothing.
 use Prim.Native.Nat.{ℕ, zero, suc, ◌+◌, ◌-◌, ◌≤◌, ◌<◌}
-use mathlib.Core.Path.{◌≡◌, refl, sym, ◌∙◌, ap, ap₂}
-use mathlib.Core.Bool.{Bool, false}
+use mathlib.Core.Path.{◌≡◌, refl, sym, ◌∙◌, ap, ap₂, fun_ext}
+use mathlib.Core.Bool.{Bool, false, ◌&&◌}
 use mathlib.Core.List.{List, ◌∷◌}
 use native.Mathlib.Nat.{add-zero, add-suc}
 use native.Mathlib.Decide.{le_ind}
 use native.Mathlib.Omega.{arith}
+use borrow.Author.Tests.{ne_eqb}
+use lib.Dec.{eqb}
 use lib.ListN.{length}
-use Rattle.guideline.specs.Table.{keep, hits}
-use Rattle.guideline.specs.declared.rows.TableName.{TableName}
+use Rattle.guideline.specs.Table.{keep, hits, among}
 use Rattle.guideline.specs.declared.view.View.{View}
-use Rattle.guideline.specs.Rows.{Row, width, read_row}
-use Rattle.guideline.specs.Bytes.{cell, listed, seen}
+use Rattle.guideline.specs.Bytes.{cell, listed}
+use Rattle.cells.specs.declared.row.TableRow.{Ghosts}
 use Rattle.cells.specs.Views.{Fits, narrowed}
-use Rattle.cells.specs.Lents.{shown, row_at, key_at}
+use Rattle.cells.specs.Lents.{shown_by}
 use Rattle.cells.proofs.Views.{narrowed_read, narrowed_fits}
-use Rattle.cells.proofs.Lents.{reads}
 use Rattle.keys.specs.Keys.{Stretch}
 
 -- rows without a property do not tell whether there are more of them
@@ -33,27 +33,30 @@ listed_same f g zero h = refl
 listed_same f g (suc n) h = ap₂ ◌∷◌ (h n (omega arith)) (listed_same f g n (λ i below. h i (omega arith)))
 
 -- a narrower view, asked about a property that no row has that it leaves out, answers as the view does
-pub narrowed_answers : (n : TableName) (l : List ℕ) (v : View) (a b : ℕ) (p : Row n → Bool) → a ≤ b → b ≤ v.rows → ((i : ℕ) → i < a → p (row_at n l v i) ≡ false) → ((i : ℕ) → b ≤ i → i < v.rows → p (row_at n l v i) ≡ false) → shown n l (narrowed v a b) p ≡ shown n l v p
-unfolding shown seen
-narrowed_answers n l v a b p order most before after =
-    ap hits
-    (ap (keep p) (listed_same (row_at n l (narrowed v a b)) (λ i. row (a + i)) (b - a) (λ i below. reads n _ _ (λ j in_row. narrowed_read l v a b i j)))
-    ∙ sym (keep_from p row a (b - a) before)
-    ∙ ap (λ (m : ℕ). keep p (listed m row)) up_to
-    ∙ sym (keep_below p row b v.rows most after))
-  where
-    row : ℕ → Row n
-    row = row_at n l v
+module _ {A : Type 0} (read : (ℕ → ℕ) → A) (l : List ℕ) (v : View) (p : A → Bool) where
+  abbrev row : ℕ → A
+  row i = read (cell l v i)
 
-    up_to : a + (b - a) ≡ b
-    up_to = omega arith
+  pub narrowed_answers : (a b : ℕ) → a ≤ b → b ≤ v.rows → ((i : ℕ) → i < a → p (row i) ≡ false) → ((i : ℕ) → b ≤ i → i < v.rows → p (row i) ≡ false) → shown_by read l (narrowed v a b) p ≡ shown_by read l v p
+  unfolding shown_by
+  narrowed_answers a b order most before after =
+      ap hits
+      (ap (keep p) (listed_same (λ i. read (cell l (narrowed v a b) i)) (λ i. row (a + i)) (b - a) (λ i below. ap read (fun_ext (λ j. narrowed_read l v a b i j))))
+      ∙ sym (keep_from p row a (b - a) before)
+      ∙ ap (λ (m : ℕ). keep p (listed m row)) (let up_to : a + (b - a) ≡ b = omega arith in up_to)
+      ∙ sym (keep_below p row b v.rows most after))
 
-module _ (n : TableName) {key : ℕ} {l : List ℕ} {v r : View} (s : Stretch l v (key_at n) key r) where
+module _ {k key : ℕ} {l : List ℕ} {v r : View} (s : Stretch l v k key r) where
   -- asked about a property that only rows with the key can have, the stretch answers as the view does
-  pub stretch_answers : (p : Row n → Bool) → ((f : ℕ → ℕ) → (f (key_at n) ≡ key → ⊥) → p (read_row n f) ≡ false) → shown n l r p ≡ shown n l v p
-  stretch_answers p other =
-      ap (λ (x : View). shown n l x p) s.cut
-      ∙ narrowed_answers n l v s.from s.to p s.order s.most (λ i below. other (cell l v i) (s.before i (omega arith) below)) (λ i above below. other (cell l v i) (s.after i above below))
+  pub stretch_answers : {A : Type 0} (read : (ℕ → ℕ) → A) (p : A → Bool) → ((f : ℕ → ℕ) → (f k ≡ key → ⊥) → p (read f) ≡ false) → shown_by read l r p ≡ shown_by read l v p
+  stretch_answers read p other =
+      ap (λ (x : View). shown_by read l x p) s.cut
+      ∙ narrowed_answers read l v p s.from s.to s.order s.most (λ i below. other (cell l v i) (s.before i (omega arith) below)) (λ i above below. other (cell l v i) (s.after i above below))
 
-  pub stretch_fits : Fits (width n) v (length l) → Fits (width n) r (length l)
+  -- asked about rows with the key, it answers as the view does
+  pub stretch_among : {A : Type 0} (R : Ghosts A) (reads_key : (f : ℕ → ℕ) → R.keyed key (R.read f) ≡ eqb (f k) key) → among (R.keyed key) (shown_by R.read l r) ≡ among (R.keyed key) (shown_by R.read l v)
+  stretch_among {A} R reads_key =
+      fun_ext (λ (p : A → Bool). stretch_answers R.read (λ x. R.keyed key x && p x) (λ f other. rw (reads_key f, ne_eqb (f k) key other)))
+
+  pub stretch_fits : {w : ℕ} → Fits w v (length l) → Fits w r (length l)
   stretch_fits f = rw s.cut (narrowed_fits s.from s.to s.order s.most f)

@@ -7,6 +7,7 @@ use mathlib.Core.List.{List}
 use native.Mathlib.Omega.{arith}
 use borrow.Author.Tests.{ltb-true, ltb-false}
 use lib.Dec.{ltb}
+use Rattle.std.specs.Prelude.{Option, None, Some}
 use Rattle.guideline.specs.declared.view.View.{View}
 use Rattle.keys.specs.Keys.{key_of, Next, Stretch}
 
@@ -25,14 +26,17 @@ not_more r s h = go (ltb s r) (ltb-true s r) (ltb-false s r)
     go false x y = absurd (h (y refl))
 
 module _ (f : ℕ → ℕ) (n key from : ℕ) where
-  next_not_before : (r s : ℕ) → Next f n key from r → Next f n key from s → r < s → ⊥
-  next_not_before r s p q less = q.2 r p.0 less (p.3 (omega (arith, q.1)))
+  next_not_before : (r s : ℕ) → Next f n key from (Some r) → Next f n key from (Some s) → r < s → ⊥
+  next_not_before r s p q less = q.2 r p.0 less p.3
 
-  pub next_one : (r s : ℕ) → Next f n key from r → Next f n key from s → r ≡ s
-  next_one r s p q =
+  pub next_one : (r s : Option ℕ) → Next f n key from r → Next f n key from s → r ≡ s
+  next_one None None p q = refl
+  next_one None (Some s) p q = absurd (p s q.0 q.1 q.3)
+  next_one (Some r) None p q = absurd (q r p.0 p.1 p.3)
+  next_one (Some r) (Some s) p q =
       let a : s ≤ r = not_less r s (next_not_before r s p q) in
       let b : r ≤ s = not_less s r (next_not_before s r q p) in
-      omega arith
+      ap Some (let e : r ≡ s = omega arith in e)
 
 module _ {l : List ℕ} {v p : View} {k key : ℕ} (c : Stretch l v k key p) where
   -- no row has the key

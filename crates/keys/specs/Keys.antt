@@ -1,8 +1,7 @@
 -- The rows with a key: the next, the last, and the stretch of a view from the first to the last. f i is the key of row i.
-use Rattle.std.specs.Prelude.{ℕ, ◌+◌, ◌-◌, ◌≤◌, ◌<◌, ◌≡◌, Bool, ◌||◌, List, eqb}
+use Rattle.std.specs.Prelude.{ℕ, ◌+◌, ◌-◌, ◌≤◌, ◌<◌, ◌≡◌, Bool, ◌||◌, List, eqb, Option, None, Some}
 use Rattle.guideline.specs.declared.view.View.{View}
 use Rattle.guideline.specs.Bytes.{cell}
-use Rattle.cells.specs.Tally.{Tallying}
 use Rattle.cells.specs.Views.{narrowed}
 
 -- number k of each row
@@ -21,17 +20,14 @@ unfoldable pub in_four : (ℕ → ℕ) → ℕ → ℕ → Bool
 in_four f key i =
     (has_key f key i || has_key f key (i + 1)) || (has_key f key (i + 2) || has_key f key (i + 3))
 
--- the first row with the key, from a row on; the number of rows n if there is none
-abbrev pub Next : (ℕ → ℕ) → ℕ → ℕ → ℕ → ℕ → Type 0
-Next f n key from r = (from ≤ r) × (r ≤ n) × Without f key from r × (r < n → f r ≡ key)
+-- the first of n rows with the key, from a row on, if there is one
+abbrev pub Next : (ℕ → ℕ) → ℕ → ℕ → ℕ → Option ℕ → Type 0
+Next f n key from None = Without f key from n
+Next f n key from (Some r) = (from ≤ r) × (r < n) × Without f key from r × (f r ≡ key)
 
 -- one past the last row with the key; `from` if there is none from there on
 abbrev pub Past : (ℕ → ℕ) → ℕ → ℕ → ℕ → ℕ → Type 0
 Past f n key from r = (from ≤ r) × (r ≤ n) × Without f key r n × (from < r → f (r - 1) ≡ key)
-
--- what a loop keeps that goes from row to row with the key: the tally of the rows passed with a property, and the key where it stands
-abbrev pub Visiting : (ℕ → ℕ) → ℕ → ℕ → (ℕ → Bool) → ℕ → ℕ → ℕ → Type 0
-Visiting f n key h i count last = Tallying h n i count last × (i < n → f i ≡ key)
 
 -- r is the rows of v from the first with the key to the last; no rows, if none has it
 pub record Stretch (l : List ℕ) (v : View) (k key : ℕ) (r : View) : Type 0 where

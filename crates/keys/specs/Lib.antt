@@ -1,3 +1,5 @@
 pub mod Keys
+pub mod Hits
 pub mod Rising
 pub mod Seen
+pub mod Rows

@@ -3,8 +3,11 @@
 #![tactic(auto)]
 
 pub mod find;
+pub mod first;
 pub mod halved;
-pub mod keyed;
+pub mod lent;
 pub mod next;
+pub mod rows;
 pub mod seen;
 pub mod stretch;
+pub mod tally;

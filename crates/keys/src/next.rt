@@ -33,18 +33,16 @@ fn fours(t: &[u8], v: View, k: usize, key: u32, from: usize) -> usize
     i
 }
 
-// The first row, from a row on, whose number k is the key; the number of rows if there is none.
-pub fn next(t: &[u8], v: View, k: usize, key: u32, from: usize) -> usize
+// The first row, from a row on, whose number k is the key.
+pub fn next(t: &[u8], v: View, k: usize, key: u32, from: usize) -> Option<usize>
     requires { Fits (k + 1) v (length t.now) × (from ≤ v.rows) }
     ensures { Next (key_of t.now v k) v.rows key from result }
 {
-    let rows = v.rows;
-    let mut i = fours(t, v, k, key, from);
-    while i < rows {
+    let first = fours(t, v, k, key, from);
+    for i in first..v.rows {
         if cells::cell(t, v, i, k) == key {
-            return i;
+            return Some(i);
         }
-        i += 1;
     }
-    rows
+    None
 }

@@ -42,7 +42,10 @@ pub fn stretch(t: &[u8], v: View, k: usize, key: u32) -> View
     requires { Fits (k + 1) v (length t.now) }
     ensures { Stretch t.now v k key result }
 {
-    let from = next(t, v, k, key, 0);
+    let first = next(t, v, k, key, 0);
+    let Some(from) = first else {
+        return cells::narrow(v, v.rows, v.rows);
+    };
     let to = end(t, v, k, key, from);
     cells::narrow(v, from, to)
 }

@@ -4,24 +4,24 @@ use mathlib.Core.Path.{◌≡◌, refl, sym, ◌∙◌, ap}
 use mathlib.Core.Bool.{Bool, true, false, cond}
 use mathlib.Core.List.{List}
 use native.Mathlib.Omega.{arith}
+use Rattle.std.specs.Prelude.{None, Some}
 use Rattle.guideline.specs.declared.rows.TableName.{TableName}
 use Rattle.guideline.specs.declared.rows.TableName.TheVariants.{T640, T641, T642, T643, T649, T730, T070}
-use Rattle.guideline.specs.declared.view.View.{View}
 use Rattle.guideline.specs.declared.refusals.Ending.{Ending}
 use Rattle.guideline.specs.declared.refusals.Refusal.{Refusal}
 use Rattle.guideline.specs.declared.refusals.Refusal.TheVariants.{Ends}
 use Rattle.guideline.specs.Rows.{sound_row}
-use Rattle.guideline.specs.Bytes.{Lents, by_rows, spelled}
+use Rattle.guideline.specs.Bytes.{Lents, by_rows, seen, spelled}
 use Rattle.guideline.specs.Table.{all_rows}
-use Rattle.cells.specs.Lents.{shown}
+use Rattle.cells.specs.Lents.{shown, shown_by}
+use Rattle.keys.specs.declared.seen.Seen.{Seen}
 use Rattle.keys.specs.declared.seen.AllSeen.{AllSeen}
 use Rattle.keys.specs.Seen.{seen_of, all_seen}
-use Rattle.ranges.specs.declared.rows.Finding.TheVariants.{OutOfRange, InRange}
 use Rattle.ranges.specs.declared.sound.Soundness.TheVariants.{Sound}
 use Rattle.ranges.specs.declared.sound.Tests.{Tests}
 use Rattle.ranges.specs.declared.sound.Tests.TheVariants.{Passed, Failed}
 use Rattle.ranges.specs.declared.sound.Tried.{Tried}
-use Rattle.ranges.specs.Soundly.{tested, link, in_range_after, tried, in_ranges_of, carried}
+use Rattle.ranges.specs.Soundly.{tested, tested_by, link, in_range_after, tried, in_ranges_of, carried}
 
 pub link_passed : (s : Tests) (b : Bool) (r : Refusal) → link s b r ≡ Passed → (s ≡ Passed) × (b ≡ true)
 link_passed Passed true r h = (refl, refl)
@@ -29,13 +29,13 @@ link_passed Passed false r h = absurd (let z : ◌≡◌ {A = ℕ} 0 1 = cc in l
 link_passed (Failed w) b r h = absurd (let z : ◌≡◌ {A = ℕ} 0 1 = cc in let y : ⊥ = omega arith in y)
 
 -- what was found of a table is so
-found_in : (all rise : Bool) {b : Bool} → InRange b ≡ cond all (InRange rise) OutOfRange → (all ≡ true) × (b ≡ rise)
-found_in true rise h = (refl, cc)
-found_in false rise h = absurd (let z : ◌≡◌ {A = ℕ} 0 1 = cc in let y : ⊥ = omega arith in y)
+found_in : (all : Bool) {seen s : Seen} → Some s ≡ cond all (Some seen) None → (all ≡ true) × (s ≡ seen)
+found_in true h = (refl, cc)
+found_in false h = absurd (let z : ◌≡◌ {A = ℕ} 0 1 = cc in let y : ⊥ = omega arith in y)
 
-found_out : (all rise : Bool) → OutOfRange ≡ cond all (InRange rise) OutOfRange → all ≡ false
-found_out true rise h = absurd (let z : ◌≡◌ {A = ℕ} 0 1 = cc in let y : ⊥ = omega arith in y)
-found_out false rise h = refl
+found_out : (all : Bool) (seen : Seen) → None ≡ cond all (Some seen) None → all ≡ false
+found_out true seen h = absurd (let z : ◌≡◌ {A = ℕ} 0 1 = cc in let y : ⊥ = omega arith in y)
+found_out false seen h = refl
 
 module _ (n : TableName) (l : List ℕ) where
   abbrev all : Bool
@@ -43,15 +43,13 @@ module _ (n : TableName) (l : List ℕ) where
 
   -- a table whose turn it was, and one whose turn it was not
   module _ {before : Tests} where
-    pub tried_in : {v : View} {b : Bool} → v ≡ by_rows n l → before ≡ Passed → InRange b ≡ tested n l v → ◌≡◌ {A = Tried} (record { tests = Passed; seen = record { rising = b } }) (tried before n l)
-    unfolding tested tried in_range_after
-    tried_in {v} {b} by passed found =
-        let k = found_in all (seen_of n l).rising (found ∙ ap (tested n l) by) in
-        rw (passed, k.0, k.1)
+    pub tried_in : {s : Seen} → before ≡ Passed → Some s ≡ tested n l (by_rows n l) → ◌≡◌ {A = Tried} (record { tests = Passed; seen = s }) (tried before n l)
+    unfolding tested_by tried in_range_after
+    tried_in passed found = let k = found_in all found in rw (passed, k.0, k.1)
 
-    pub tried_out : {v : View} → v ≡ by_rows n l → before ≡ Passed → OutOfRange ≡ tested n l v → ◌≡◌ {A = Tried} (record { tests = Failed (Ends (Ending.OutOfRange n)); seen = record { rising = false } }) (tried before n l)
-    unfolding tested tried in_range_after
-    tried_out by passed found = rw (passed, found_out all (seen_of n l).rising (found ∙ ap (tested n l) by))
+    pub tried_out : before ≡ Passed → None ≡ tested n l (by_rows n l) → ◌≡◌ {A = Tried} (record { tests = Failed (Ends (Ending.OutOfRange n)); seen = record { rising = false } }) (tried before n l)
+    unfolding tested_by tried in_range_after
+    tried_out passed found = rw (passed, found_out all _ found)
 
     pub tried_not : {r : Refusal} → before ≡ Failed r → ◌≡◌ {A = Tried} (record { tests = before; seen = record { rising = false } }) (tried before n l)
     unfolding tried in_range_after
@@ -83,7 +81,7 @@ module _ (b : Lents) (before : Tests) {p q r s t u v : Tried}
     (eu : u ≡ tried t.tests T730 (b T730))
     (ev : v ≡ tried u.tests T070 (b T070)) where
   last_tests : v.tests ≡ in_ranges_of (spelled b) before
-  unfolding tried in_range_after in_ranges_of spelled shown
+  unfolding tried in_range_after in_ranges_of spelled shown_by seen
   last_tests = rw (ev, eu, et, es, er, eq, ep)
 
   all_are_seen : v.tests ≡ Passed → seen_all p q r s t u v ≡ all_seen b

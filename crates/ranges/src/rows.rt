@@ -1,84 +1,78 @@
-// 122 of a table, by its name, in one pass that also sees whether the keys rise.
-ghost use Rattle.std.specs.Prelude.{◌≡◌, false, ◌<◌, length};
-ghost use Rattle.guideline.specs.Rows.{width, sound_row};
+// 122 of a table in one pass that also sees whether the keys rise.
+ghost use Rattle.std.specs.Prelude.{◌≡◌, false, length};
+ghost use Rattle.guideline.specs.Bytes.{by_rows};
 ghost use Rattle.guideline.specs.Table.{all_rows};
-ghost use Rattle.cells.specs.Views.{Fits};
-ghost use Rattle.cells.specs.Lents.{shown, row_at, key_at};
+ghost use Rattle.cells.specs.Views.{Fits, by_width};
+ghost use Rattle.cells.specs.Lents.{shown_by};
 ghost use Rattle.keys.specs.Keys.{key_of};
 ghost use Rattle.keys.specs.Rising.{rises};
-ghost use Rattle.ranges.specs.Soundly.{InRangeUpTo, tested};
+ghost use Rattle.ranges.specs.Soundly.{InRangeBy, tested_by, tested};
 
-use crate::{t070, t640, t641, t642, t643, t649, t730};
-use guideline::rows::TableName;
+use crate::ranged::Ranged;
+use guideline::rows::{Row070, Row640, Row641, Row642, Row643, Row649, Row730, TableName};
 use guideline::view::View;
-
-// What the pass over a table finds: a row out of range, or all in range, and whether the keys rise.
-#[derive(Clone, Copy)]
-pub enum Finding {
-    OutOfRange,
-    InRange(bool),
-}
-
-fn row_in_range(t: &[u8], v: View, n: TableName, i: usize) -> bool
-    requires { Fits (width n) v (length t.now) × (i < v.rows) }
-    ensures { result ≡ sound_row n (row_at n t.now v i) }
-{
-    match n {
-        TableName::T640 => t640::in_range(cells::t640::row(t, v, i)),
-        TableName::T641 => t641::in_range(cells::t641::row(t, v, i)),
-        TableName::T642 => t642::in_range(cells::t642::row(t, v, i)),
-        TableName::T643 => t643::in_range(cells::t643::row(t, v, i)),
-        TableName::T649 => t649::in_range(cells::t649::row(t, v, i)),
-        TableName::T730 => t730::in_range(cells::t730::row(t, v, i)),
-        TableName::T070 => t070::in_range(cells::t070::row(t, v, i)),
-    }
-}
+use keys::seen::Seen;
 
 // 122 of the rows from one on, where those before it passed.
-fn rest_in_range(t: &[u8], v: View, n: TableName, from: usize) -> bool
-    requires { Fits (width n) v (length t.now) × InRangeUpTo n t.now v from }
-    ensures { result ≡ all_rows (sound_row n) (shown n t.now v) }
+fn rest_in_range<R: Ranged>(t: &[u8], v: View, from: usize) -> bool
+    requires { Fits R.WIDTH v (length t.now) × InRangeBy R.sound R.read t.now v from }
+    ensures { result ≡ all_rows R.sound (shown_by R.read t.now v) }
 {
-    let rows = v.rows;
-    let mut i = from;
-    while i < rows {
-        if !row_in_range(t, v, n, i) {
+    for i in from..v.rows {
+        if !R::row(t, v, i).in_range() {
             return false;
         }
-        i += 1;
     }
     true
 }
 
 // Once a key falls, the keys of the other rows are not looked at.
-fn after_a_fall(t: &[u8], v: View, n: TableName, from: usize) -> Finding
-    requires { Fits (width n) v (length t.now) × InRangeUpTo n t.now v from × (rises (key_of t.now v (key_at n)) from ≡ false) }
-    ensures { result ≡ tested n t.now v }
+fn after_a_fall<R: Ranged>(t: &[u8], v: View, from: usize) -> Option<Seen>
+    requires { Fits R.WIDTH v (length t.now) × InRangeBy R.sound R.read t.now v from × (rises (key_of t.now v R.KEY) from ≡ false) }
+    ensures { result ≡ tested_by R.sound R.read R.KEY t.now v }
 {
-    if rest_in_range(t, v, n, from) {
-        return Finding::InRange(false);
+    if rest_in_range::<R>(t, v, from) {
+        return Some(Seen { rising: false });
     }
-    Finding::OutOfRange
+    None
 }
 
-pub fn tested(t: &[u8], v: View, n: TableName) -> Finding
-    requires { Fits (width n) v (length t.now) }
-    ensures { result ≡ tested n t.now v }
+// What was seen of a table whose rows are all in range.
+pub fn tested<R: Ranged>(t: &[u8], v: View) -> Option<Seen>
+    requires { Fits R.WIDTH v (length t.now) }
+    ensures { result ≡ tested_by R.sound R.read R.KEY t.now v }
 {
-    let k = cells::key_at(n);
-    let rows = v.rows;
     let mut last: u32 = 0;
-    let mut i: usize = 0;
-    while i < rows {
-        if !row_in_range(t, v, n, i) {
-            return Finding::OutOfRange;
+    for i in 0..v.rows {
+        if !R::row(t, v, i).in_range() {
+            return None;
         }
-        let key = cells::cell(t, v, i, k);
-        i += 1;
+        let key = cells::cell(t, v, i, R::KEY);
         if key < last {
-            return after_a_fall(t, v, n, i);
+            return after_a_fall::<R>(t, v, i + 1);
         }
         last = key;
     }
-    Finding::InRange(true)
+    Some(Seen { rising: true })
+}
+
+fn tested_all<R: Ranged>(t: &[u8]) -> Option<Seen>
+    ensures { result ≡ tested_by R.sound R.read R.KEY t.now (by_width R.WIDTH t.now) }
+{
+    tested::<R>(t, cells::every_row::<R>(t))
+}
+
+// A table by its name.
+pub fn tested_table(t: &[u8], n: TableName) -> Option<Seen>
+    ensures { result ≡ tested n t.now (by_rows n t.now) }
+{
+    match n {
+        TableName::T640 => tested_all::<Row640>(t),
+        TableName::T641 => tested_all::<Row641>(t),
+        TableName::T642 => tested_all::<Row642>(t),
+        TableName::T643 => tested_all::<Row643>(t),
+        TableName::T649 => tested_all::<Row649>(t),
+        TableName::T730 => tested_all::<Row730>(t),
+        TableName::T070 => tested_all::<Row070>(t),
+    }
 }

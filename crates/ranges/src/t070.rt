@@ -1,27 +1,30 @@
 // 122 of a row of table 70: HPKODE, PRKODE, HPANPR, GPKODE, PRANGP, HPANGP.
-ghost use Rattle.std.specs.Prelude.{◌≡◌};
 ghost use Rattle.guideline.specs.declared.rows.TableName.TheVariants.{T070};
 ghost use Rattle.guideline.specs.Rows.{sound_row};
 
+use crate::ranged::Ranged;
 use guideline::rows::Row070;
 
-pub fn in_range(r: Row070) -> bool
-    ensures { result ≡ sound_row T070 r }
-{
-    guideline::both(
-        fields::CODES_FROM_1.holds(r.hpkode),
+impl Ranged for Row070 {
+    ghost sound = { sound_row T070 };
+
+    #[tactic(auto, unfolding(guideline::specs::Rows::sound_row))]
+    fn in_range(self) -> bool {
         guideline::both(
-            fields::CODES_FROM_1.holds(r.prkode),
+            fields::CODES_FROM_1.holds(self.hpkode),
             guideline::both(
-                fields::COUNTS_OF_070.holds(r.hpanpr),
+                fields::CODES_FROM_1.holds(self.prkode),
                 guideline::both(
-                    fields::CODES_FROM_1.holds(r.gpkode),
+                    fields::COUNTS_OF_070.holds(self.hpanpr),
                     guideline::both(
-                        fields::COUNTS_OF_070.holds(r.prangp),
-                        fields::COUNTS_OF_070.holds(r.hpangp),
+                        fields::CODES_FROM_1.holds(self.gpkode),
+                        guideline::both(
+                            fields::COUNTS_OF_070.holds(self.prangp),
+                            fields::COUNTS_OF_070.holds(self.hpangp),
+                        ),
                     ),
                 ),
             ),
-        ),
-    )
+        )
+    }
 }

@@ -1,4 +1,3 @@
-pub mod Visited
 pub mod Asked
-pub mod Stretches
-pub mod Found
+pub mod FoundTold
+pub mod Units

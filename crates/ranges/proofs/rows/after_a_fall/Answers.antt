@@ -5,11 +5,9 @@ use Rattle.ranges.proofs.RowByRow.{tested_out, tested_in}
 use Rattle.ranges.proofs.rows.after_a_fall.Goals as goal
 
 pub returns-then-rest_in_range : goal.returns-then-rest_in_range
-returns-then-rest_in_range c =
+returns-then-rest_in_range g c =
     let a = c.args in
-    tested_in a.n a.t.now a.v (sym c.rest_in_range.ensures ∙ c.if-rest_in_range.true) (fall_stays _ a.from a.v.rows c.requires.1.0 c.requires.2)
+    tested_in _ _ _ _ g.R.TableRow.KEY (sym c.rest_in_range.ensures ∙ c.if-rest_in_range.true) (fall_stays _ a.from a.v.rows c.requires.1.0 c.requires.2)
 
 pub returns : goal.returns
-returns c =
-    let a = c.args in
-    tested_out a.n a.t.now a.v (sym c.rest_in_range.ensures ∙ c.if-rest_in_range.false)
+returns g c = tested_out _ _ _ _ g.R.TableRow.KEY (sym c.rest_in_range.ensures ∙ c.if-rest_in_range.false)

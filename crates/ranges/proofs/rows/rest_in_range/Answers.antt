@@ -1,30 +1,20 @@
 -- The loop has found no row out of range among those that it has passed. Assumes nothing.
-use borrow.Author.Rules.{rules}
 use mathlib.Core.Path.{sym, ◌∙◌}
 use native.Mathlib.Omega.{arith}
 use Rattle.ranges.proofs.RowByRow.{found_unsound, all_sound, one_tested}
 use Rattle.ranges.proofs.rows.rest_in_range.Goals as goal
 
-pub loop-i-init : goal.loop-i-init
-loop-i-init c = c.requires.1
-
-pub row_in_range-requires : goal.row_in_range-requires
-row_in_range-requires c = (c.requires.0, omega arith)
-
-pub returns-then-not-row_in_range : goal.returns-then-not-row_in_range
-returns-then-not-row_in_range c =
+pub returns-then-not-in_range : goal.returns-then-not-in_range
+returns-then-not-in_range g c =
     let a = c.args in
-    sym (found_unsound a.n a.t.now a.v c.loop-i.i (omega arith) (sym c.row_in_range.ensures ∙ c.if-not-row_in_range.true))
-
-pub overflow_add-i : goal.overflow_add-i
-overflow_add-i c = let h = c.requires.0.few in search (h, rules)
+    sym (found_unsound g.R.Ranged.sound g.R.TableRow.read a.t.now a.v c.loop-i.i (omega arith) (rw (← c.row.ensures) (sym c.in_range.ensures ∙ c.if-not-in_range.true)))
 
 pub loop-i-preserved : goal.loop-i-preserved
-loop-i-preserved c =
+loop-i-preserved g c =
     let a = c.args in
-    one_tested a.n a.t.now a.v c.loop-i.invariant (omega arith) (sym c.row_in_range.ensures ∙ c.if-not-row_in_range.false)
+    one_tested g.R.Ranged.sound g.R.TableRow.read a.t.now a.v c.loop-i.invariant (omega arith) (rw (← c.row.ensures) (sym c.in_range.ensures ∙ c.if-not-in_range.false))
 
 pub returns : goal.returns
-returns c =
+returns g c =
     let a = c.args in
-    sym (all_sound a.n a.t.now a.v c.loop-i.invariant (omega arith))
+    sym (all_sound g.R.Ranged.sound g.R.TableRow.read a.t.now a.v c.loop-i.invariant (omega arith))

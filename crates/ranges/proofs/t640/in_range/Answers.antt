@@ -1,7 +1,0 @@
--- Each field is tested against its range. Assumes nothing.
-use Rattle.guideline.specs.Rows.{sound_row}
-use Rattle.ranges.proofs.t640.in_range.Goals as goal
-
-pub returns : goal.returns
-unfolding sound_row
-returns c = rw (c.both-2.ensures, c.both.ensures, c.holds-3.ensures, c.holds-2.ensures, c.holds.ensures)
