@@ -1,3 +1,3 @@
 pub mod Narrowed
 pub mod Links
-pub mod MeasureTold
+pub mod Category

@@ -1,24 +1,24 @@
 -- The steps that filter, told by whether there is a row that passes. Assumes nothing.
 use Prim.Native.Nat.{ℕ, zero, suc}
-use mathlib.Core.Path.{◌≡◌, refl, sym, ◌∙◌}
+use mathlib.Core.Path.{◌≡◌, refl, sym, ◌∙◌, ap}
 use mathlib.Core.Bool.{Bool, true, false, cond}
+use Rattle.std.specs.Prelude.{Result}
 use Rattle.guideline.specs.declared.bounds.Bounds.{Bounds}
 use Rattle.guideline.specs.declared.context.Context.{Context}
 use Rattle.guideline.specs.declared.entries.Datum.{Datum}
 use Rattle.guideline.specs.declared.entries.Prescription.{Prescription}
 use Rattle.guideline.specs.Types.{Value}
-use Rattle.guideline.specs.Types.{Blank, Given}
 use Rattle.guideline.specs.declared.refusals.Ending.{Ending}
 use Rattle.guideline.specs.declared.refusals.Ending.TheVariants.{Suppressed, NoFrequency, RowsSeveral}
 use Rattle.guideline.specs.declared.refusals.Question.{Question}
 use Rattle.guideline.specs.declared.refusals.Refusal.{Refusal}
-use Rattle.guideline.specs.declared.refusals.Refusal.TheVariants.{Asks, Ends}
+use Rattle.guideline.specs.declared.refusals.Refusal.TheVariants.{Ends}
 use Rattle.guideline.specs.declared.rows.Row643.{Row643}
 use Rattle.guideline.specs.declared.rows.Row649.{Row649}
 use Rattle.guideline.specs.Values.{fits, matters}
-use Rattle.guideline.specs.Ask.{asks_for, Chosen, Refused, Done, run, ◌>>=◌}
+use Rattle.guideline.specs.Ask.{asks_for, Outcome, Chosen, Refused, Done, run}
 use Rattle.guideline.specs.Table.{Table, some, among, every}
-use Rattle.guideline.specs.Forms.{when, refuse, ask, choose, one, narrow}
+use Rattle.guideline.specs.Forms.{when, refuse, choose, one, narrow}
 use Rattle.guideline.specs.Quiet.{suppresses}
 use Rattle.guideline.specs.Steps.{signal, no_frequency, by_frequency, by_measure, one_row}
 use Rattle.guideline.proofs.Run.{refused_here, chosen_then}
@@ -28,6 +28,8 @@ use Rattle.filter.specs.declared.Filter.{Filter}
 use Rattle.filter.specs.declared.Filter.TheVariants.{Exact, Twin}
 use Rattle.filter.specs.Filters.{filter643, frequency_of}
 use Rattle.filter.proofs.Frequencies.{exact_filter, twin_filter}
+use Rattle.sieve.proofs.Needing.{on_need, run_needed}
+use Rattle.sieve.specs.Needed.{needed}
 use Rattle.sieve.specs.Matched.{frequency_kept}
 use Rattle.sieve.proofs.Frequencies.{has_exact, has_twin}
 
@@ -76,18 +78,15 @@ module _ (limits : Table Row649) (p : Prescription) (c : Context) (t : Table Row
   signal_stands h = sym (chosen_then (λ o. o) d (suppresses limits p c t) _ h)
 
 -- step 10
-module _ (q : Question) (none : Ending) (bounds : Row643 → Bounds) (t : Table Row643) (d : Datum → Value) where
-  pub measure_unneeded : some (t (λ r. matters (bounds r))) ≡ false → run d (by_measure q none bounds t) ≡ Chosen t
-  unfolding by_measure when
-  measure_unneeded h = rw h
+module _ (d : Datum → Value) (question : Question) (none : Ending) (bounds : Row643 → Bounds) (t : Table Row643) where
+  abbrev pub when_needed : Result Value Question → Outcome (Unit {0}) (Table Row643)
+  when_needed = on_need d question t (λ x. narrow (λ r. fits (bounds r) x) none t)
 
-  pub measure_blank : some (t (λ r. matters (bounds r))) ≡ true → d (asks_for q) ≡ Blank → run d (by_measure q none bounds t) ≡ Refused (Asks q) tt
-  unfolding by_measure when ask ◌>>=◌
-  measure_blank h b = rw (h, b)
-
-  pub measure_given : {x : ℕ} → some (t (λ r. matters (bounds r))) ≡ true → d (asks_for q) ≡ Given x → run d (by_measure q none bounds t) ≡ run d (narrow (λ r. fits (bounds r) x) none t)
-  unfolding by_measure when ask ◌>>=◌
-  measure_given h b = rw (h, b)
+  pub run_measure : {x : Value} {n : Result Value Question} → d (asks_for question) ≡ x → n ≡ needed question (some (t (λ r. matters (bounds r)))) x → run d (by_measure question none bounds t) ≡ when_needed n
+  unfolding by_measure
+  run_measure {x} e h =
+      run_needed d question t (λ x. narrow (λ r. fits (bounds r) x) none t) (some (t (λ r. matters (bounds r)))) x e
+      ∙ ap when_needed (sym h)
 
 -- step 11
 module _ (t : Table Row643) (d : Datum → Value) (n : ℕ) (r : Row643) (e : t every ≡ told n r) where

@@ -16,6 +16,11 @@ Chooses p r = (d : Datum → Value) → r ≡ answered (run d p)
 abbrev pub stopped_at : Reached → Refusal → Stopped
 stopped_at g why = record { why = why; reached = g }
 
+-- of a step, where g is reached
+abbrev pub answered_at : {A : Type 0} → Reached → Result A Refusal → Result A Stopped
+answered_at g (Ok a) = Ok a
+answered_at g (Err why) = Err (stopped_at g why)
+
 abbrev pub ended : {A : Type 0} → Outcome Reached A → Result A Stopped
 ended (Chosen a) = Ok a
 ended (Refused why g) = Err (stopped_at g why)

@@ -1,10 +1,12 @@
 // How a check ends before step 12.
 ghost use Rattle.std.specs.Prelude.{◌≡◌};
-ghost use Rattle.guideline.specs.Ask.{no_refusal};
+ghost use Rattle.guideline.specs.declared.refusals.Refusal.TheVariants.{Asks};
+ghost use Rattle.guideline.specs.Ask.{no_refusal, asks_for};
 ghost use Rattle.guideline.specs.Steps.{nothing};
-ghost use Rattle.guideline.specs.Results.{stopped_at};
+ghost use Rattle.guideline.specs.Results.{stopped_at, answered_at};
 
 use crate::answer::Reached;
+use crate::entries::Datum;
 use crate::rows::TableName;
 
 // A question: the datum that it asks for and the step that asks. One datum may be asked for at several places.
@@ -18,6 +20,21 @@ pub enum Question {
     SurfacePerDay,
     WeightOfRow,
     SurfaceOfRow,
+}
+
+impl Question {
+    pub fn asks_for(self) -> Datum
+        ensures { result ≡ asks_for self }
+    {
+        match self {
+            Question::AgeOfPerson => Datum::Age,
+            Question::SexOfPerson => Datum::Sex,
+            Question::HpkOfLevel => Datum::Hpk,
+            Question::PrkOfLevel => Datum::Prk,
+            Question::WeightPerDay | Question::WeightOfRow => Datum::Weight,
+            Question::SurfacePerDay | Question::SurfaceOfRow => Datum::Surface,
+        }
+    }
 }
 
 // What the frequency differs in, where no row has it.
@@ -80,11 +97,31 @@ impl Refusal {
     }
 }
 
+impl From<Question> for Refusal {
+    ghost from_gives = { λ question r. r ≡ Asks question };
+
+    fn from(question: Question) -> Refusal {
+        Refusal::Asks(question)
+    }
+}
+
 // A check that has ended before its comparison: by a step's refusal, and what is reached there.
 #[derive(Clone, Copy)]
 pub struct Stopped {
     pub why: Refusal,
     pub reached: Reached,
+}
+
+impl Reached {
+    // A step, where this is reached.
+    pub fn at<A>(self, step: Result<A, Refusal>) -> Result<A, Stopped>
+        ensures { result ≡ answered_at self step }
+    {
+        match step {
+            Ok(chosen) => Ok(chosen),
+            Err(why) => Err(Stopped { why, reached: self }),
+        }
+    }
 }
 
 // A step that is refused before the basis is chosen.

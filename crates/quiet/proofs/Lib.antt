@@ -1,4 +1,4 @@
-pub mod Told
 pub mod Looked
 pub mod Judging
 pub mod Links
+pub mod FittingRuns

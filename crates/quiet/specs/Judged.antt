@@ -1,8 +1,6 @@
--- What the rule of a row says: does it keep the signal, and does it allow more than the entered dose?
-use Rattle.std.specs.Prelude.{Bool, true, false}
-use Rattle.quiet.specs.declared.rule.Judged.{Judged}
-use Rattle.quiet.specs.declared.rule.Judged.TheVariants.{Bars, Free}
+-- What the rule of a row says: does it allow more than the entered dose, where it does not keep the signal?
+use Rattle.std.specs.Prelude.{Bool, true, false, Option, None, Some}
 
-abbrev pub judged : Bool → Bool → Judged
-judged true allows = Bars
-judged false allows = Free allows
+abbrev pub judged : Bool → Bool → Option Bool
+judged true allows = None
+judged false allows = Some allows

@@ -1,3 +1,3 @@
 pub mod Judged
 pub mod Fitted
-pub mod Links
+pub mod Suppressed

@@ -9,7 +9,7 @@ ghost use Rattle.keys.specs.Seen.{Sees};
 ghost use Rattle.sieve.specs.Settled.{kept};
 ghost use Rattle.units.specs.Comparing.{Amounts, Tested};
 
-use crate::rule::{Judged, judge};
+use crate::rule::judge;
 use cells::t643;
 use guideline::context::Ratio;
 use guideline::entries::Prescription;
@@ -30,15 +30,12 @@ pub fn lower(
     requires { Fits (width T643) v (length t643.now) × Sees T649 t649.now w × Amounts q × Tested p (rows T649 t649.now) }
     ensures { result ≡ lower (rows T649 t649.now) p q (kept t643.now v s) }
 {
-    let rows = v.rows;
-    let category = s.category;
     let mut more = false;
-    let mut i = next(t643, v, t643::KEY, category, 0);
-    while i < rows {
+    let mut i = next(t643, v, t643::KEY, s.category, 0);
+    while i < v.rows {
         let row = t643::row(t643, v, i);
-        i = next(t643, v, t643::KEY, category, i + 1);
-        let judged = judge(t649, w, s, p, q, row);
-        let Judged::Free(allows) = judged else {
+        i = next(t643, v, t643::KEY, s.category, i + 1);
+        let Some(allows) = judge(t649, w, s, p, q, row) else {
             return false;
         };
         more = guideline::either(more, allows);

@@ -1,4 +1,4 @@
-// 3.4.2.2 to 3.4.2.5, of the rule of one row.
+// 3.4.2.2 to 3.4.2.5, of the rule of one row. None: it keeps the signal whatever the others say; else, does it allow more than the entered dose?
 ghost use Rattle.std.specs.Prelude.{◌≡◌, not, ◌&&◌, eqb};
 ghost use Rattle.guideline.specs.declared.rows.TableName.TheVariants.{T649};
 ghost use Rattle.guideline.specs.Quiet.{minimum_empty, maximum_given, above_dose, above_day_dose, allows_more};
@@ -18,13 +18,6 @@ use sieve::settled::Settled;
 use tables::t649;
 use tables::t649::Found649;
 
-// A rule keeps the signal whatever the others say; or it does not, and allows more than the entered dose or not.
-#[derive(Clone, Copy)]
-pub enum Judged {
-    Bars,
-    Free(bool),
-}
-
 // 3.4.2.3 to 3.4.2.5. The products of the day doses can pass 64 bits.
 fn allows_more(p: Prescription, q: Ratio, row: Row643, m: Row649) -> bool
     requires { Products q m.normmaximum p.highest }
@@ -39,35 +32,42 @@ fn allows_more(p: Prescription, q: Ratio, row: Row643, m: Row649) -> bool
 }
 
 // 3.4.2.2, where the rule has one row.
-fn of_limits(p: Prescription, q: Ratio, row: Row643, m: Row649) -> Judged
+fn of_limits(p: Prescription, q: Ratio, row: Row643, m: Row649) -> Option<bool>
     requires { Products q m.normmaximum p.highest }
     ensures { result ≡ judged (not (eqb m.normminimum no_limit)) (maximum_given m && (above_dose p q m && above_day_dose p q row m)) }
 {
     if m.normminimum == Row649::NO_LIMIT {
-        return Judged::Free(allows_more(p, q, row, m));
+        return Some(allows_more(p, q, row, m));
     }
-    Judged::Bars
+    None
 }
 
-fn of_rule(t649: &[u8], w: Seen, p: Prescription, q: Ratio, row: Row643) -> Judged
+fn of_rule(t649: &[u8], w: Seen, p: Prescription, q: Ratio, row: Row643) -> Option<bool>
     requires { Sees T649 t649.now w × Amounts q × Tested p (rows T649 t649.now) }
     ensures { result ≡ judged (not (minimum_empty (rows T649 t649.now) row)) (allows_more (rows T649 t649.now) p q row) }
 {
     let found = t649::ask(t649, w, row.gpddnr);
     match found {
-        Found649::Nothing => Judged::Bars,
+        Found649::Nothing => None,
         Found649::One(m) => of_limits(p, q, row, m),
-        Found649::Many(_) => Judged::Bars,
+        Found649::Many(_) => None,
     }
 }
 
 // A row that what is settled does not let pass has no say.
-pub fn judge(t649: &[u8], w: Seen, s: Settled, p: Prescription, q: Ratio, row: Row643) -> Judged
+pub fn judge(
+    t649: &[u8],
+    w: Seen,
+    s: Settled,
+    p: Prescription,
+    q: Ratio,
+    row: Row643,
+) -> Option<bool>
     requires { Sees T649 t649.now w × Amounts q × Tested p (rows T649 t649.now) }
     ensures { result ≡ judged (settled643 s row && not (minimum_empty (rows T649 t649.now) row)) (settled643 s row && allows_more (rows T649 t649.now) p q row) }
 {
     if s.passes(row) {
         return of_rule(t649, w, p, q, row);
     }
-    Judged::Free(false)
+    Some(false)
 }

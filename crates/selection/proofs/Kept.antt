@@ -3,23 +3,15 @@ use Prim.Native.Nat.{ℕ}
 use mathlib.Core.Path.{◌≡◌, refl, sym, ◌∙◌, ap}
 use mathlib.Core.Bool.{Bool, true, false, cond}
 use lib.Dec.{eqb}
-use Rattle.guideline.specs.declared.entries.Datum.{Datum}
-use Rattle.guideline.specs.Types.{Value}
-use Rattle.guideline.specs.declared.refusals.Ending.TheVariants.{NoSetting, SettingSeveral}
 use Rattle.guideline.specs.declared.rows.Row642.{Row642}
 use Rattle.guideline.specs.declared.rows.TableName.TheVariants.{T642}
 use Rattle.guideline.specs.declared.setting.Setting.{Setting}
-use Rattle.guideline.specs.Ask.{run}
 use Rattle.guideline.specs.Rows.{keyed}
-use Rattle.guideline.specs.Table.{Table, Hits, None, One, Many, some, among, every}
+use Rattle.guideline.specs.Table.{Table, some, among, every}
 use Rattle.guideline.specs.Values.{intensive_care, no_reason, no_route}
-use Rattle.guideline.specs.Forms.{one, choose, refuse}
-use Rattle.guideline.specs.Steps.{of_care, of_reason, of_route, keep_care, keep_reason, keep_route, setting}
-use Rattle.tables.specs.Found.{found642}
-use Rattle.tables.specs.Tests.{test642}
-use Rattle.tables.specs.declared.t642.Test642.TheVariants.{Care, Reason, Route}
-use Rattle.selection.specs.Chosen.{chosen642}
-use Rattle.selection.specs.Kept.{in_all_care, for_whole_reason, for_Q_general, by_no_route, care_kept, reason_kept, route_kept, route_found, by_found}
+use Rattle.guideline.specs.Steps.{of_care, of_reason, of_route, keep_care, keep_reason, keep_route}
+use Rattle.tables.specs.Tests.{by_care, by_reason, by_route}
+use Rattle.selection.specs.Kept.{in_all_care, for_whole_reason, for_Q_general, by_no_route, care_kept, reason_kept, route_kept}
 
 module _ (t : Table Row642) where
   abbrev of_care_group : Setting → Table Row642
@@ -30,7 +22,7 @@ module _ (t : Table Row642) where
 
   care_rows : (s : Setting) → keep_care s.care t ≡ of_care_group (care_kept t s)
   unfolding keep_care care_kept
-  care_rows s = go (eqb s.care intensive_care) (some (t (test642 (Care s))))
+  care_rows s = go (eqb s.care intensive_care) (some (t (by_care s)))
     where
       go : (b c : Bool) → cond b (cond c (of_care_group s) (of_care_group (in_all_care s))) (of_care_group s) ≡ of_care_group (cond b (cond c s (in_all_care s)) s)
       go true true = refl
@@ -39,7 +31,7 @@ module _ (t : Table Row642) where
 
   reason_rows : (s : Setting) → keep_reason s.reason s.icpcto (of_care_group s) ≡ of_care_and_reason (reason_kept t s)
   unfolding keep_reason reason_kept
-  reason_rows s = go (eqb s.reason no_reason) (some (t (test642 (Reason s)))) (some (t (test642 (Reason (for_whole_reason s)))))
+  reason_rows s = go (eqb s.reason no_reason) (some (t (by_reason s))) (some (t (by_reason (for_whole_reason s))))
     where
       R : Setting → Table Row642
       R = of_care_and_reason
@@ -50,18 +42,18 @@ module _ (t : Table Row642) where
       go false false true = refl
       go false false false = refl
 
-  route_rows : (s : Setting) → keep_route s.route (of_care_and_reason s) every ≡ t (test642 (Route (route_kept t s)))
+  route_rows : (s : Setting) → keep_route s.route (of_care_and_reason s) every ≡ t (by_route (route_kept t s))
   unfolding keep_route route_kept
-  route_rows s = go (some (t (test642 (Route s))))
+  route_rows s = go (some (t (by_route s)))
     where
-      go : (b : Bool) → cond b (among (of_route s.route) (of_care_and_reason s)) (among (of_route no_route) (of_care_and_reason s)) every ≡ t (test642 (Route (cond b s (by_no_route s))))
+      go : (b : Bool) → cond b (among (of_route s.route) (of_care_and_reason s)) (among (of_route no_route) (of_care_and_reason s)) every ≡ t (by_route (cond b s (by_no_route s)))
       go true = refl
       go false = refl
 
   -- the care group and the reason leave what comes after them as it was entered
   care_rest : (s : Setting) → ((care_kept t s).reason ≡ s.reason) × ((care_kept t s).icpcto ≡ s.icpcto) × ((care_kept t s).route ≡ s.route)
   unfolding care_kept
-  care_rest s = go (eqb s.care intensive_care) (some (t (test642 (Care s))))
+  care_rest s = go (eqb s.care intensive_care) (some (t (by_care s)))
     where
       go : (b c : Bool) → ((cond b (cond c s (in_all_care s)) s).reason ≡ s.reason) × ((cond b (cond c s (in_all_care s)) s).icpcto ≡ s.icpcto) × ((cond b (cond c s (in_all_care s)) s).route ≡ s.route)
       go true true = (refl, refl, refl)
@@ -70,7 +62,7 @@ module _ (t : Table Row642) where
 
   reason_rest : (s : Setting) → (reason_kept t s).route ≡ s.route
   unfolding reason_kept
-  reason_rest s = go (eqb s.reason no_reason) (some (t (test642 (Reason s)))) (some (t (test642 (Reason (for_whole_reason s)))))
+  reason_rest s = go (eqb s.reason no_reason) (some (t (by_reason s))) (some (t (by_reason (for_whole_reason s))))
     where
       go : (a b c : Bool) → (cond a (for_Q_general s) (cond b s (cond c (for_whole_reason s) (for_Q_general s)))).route ≡ s.route
       go true b c = refl
@@ -78,7 +70,7 @@ module _ (t : Table Row642) where
       go false false true = refl
       go false false false = refl
 
-  kept_rows : (s : Setting) → keep_route s.route (keep_reason s.reason s.icpcto (keep_care s.care t)) every ≡ t (test642 (Route (route_kept t (reason_kept t (care_kept t s)))))
+  kept_rows : (s : Setting) → keep_route s.route (keep_reason s.reason s.icpcto (keep_care s.care t)) every ≡ t (by_route (route_kept t (reason_kept t (care_kept t s))))
   kept_rows s =
       ap (λ (x : Table Row642). keep_route s.route (keep_reason s.reason s.icpcto x) every) (care_rows s)
       ∙ ap (λ (i : ℕ). keep_route s.route (keep_reason i s.icpcto (of_care_group c)) every) (sym (care_rest s).0)
@@ -93,14 +85,6 @@ module _ (t : Table Row642) where
       r : Setting
       r = reason_kept t c
 
--- "At the end none 113, several 123."
-found_setting : (d : Datum → Value) (h : Hits Row642) → by_found (found642 h) ≡ chosen642 (run d (one h NoSetting SettingSeveral))
-unfolding one choose refuse
-found_setting d None = refl
-found_setting d (One r) = refl
-found_setting d (Many n) = refl
-
-pub setting_kept : (d : Datum → Value) (t : Table Row642) (s : Setting) (basis : ℕ) → by_found (route_found (among (keyed T642 basis) t) (reason_kept (among (keyed T642 basis) t) (care_kept (among (keyed T642 basis) t) s))) ≡ chosen642 (run d (setting t s basis))
-unfolding setting
-setting_kept d t s basis =
-    found_setting d _ ∙ ap (λ (h : Hits Row642). chosen642 (run d (one h NoSetting SettingSeveral))) (sym (kept_rows (among (keyed T642 basis) t) s))
+-- the rows of the basis that are kept: what `one` is asked of
+pub setting_rows : (t : Table Row642) (s : Setting) (basis : ℕ) → among (keyed T642 basis) t (by_route (route_kept (among (keyed T642 basis) t) (reason_kept (among (keyed T642 basis) t) (care_kept (among (keyed T642 basis) t) s)))) ≡ keep_route s.route (keep_reason s.reason s.icpcto (keep_care s.care (among (keyed T642 basis) t))) every
+setting_rows t s basis = sym (kept_rows (among (keyed T642 basis) t) s)

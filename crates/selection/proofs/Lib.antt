@@ -1,4 +1,4 @@
-pub mod Told
+pub mod Asked
 pub mod Given
 pub mod Kept
 pub mod Linked

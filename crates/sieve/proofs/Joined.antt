@@ -12,7 +12,7 @@ use Rattle.filter.specs.declared.Filter.{Filter}
 use Rattle.filter.specs.declared.Filter.TheVariants.{Every, Age, FitsMeasure}
 use Rattle.filter.specs.Filters.{filter643}
 use Rattle.sieve.specs.declared.settled.Settled.{Settled}
-use Rattle.sieve.specs.Settled.{and_age, and_frequency, and_weight, and_surface, and_measure, own_value, other_value, age_filter, measure_filter, settled643}
+use Rattle.sieve.specs.Settled.{and_age, and_frequency, and_measure, own_value, other_value, age_filter, measure_filter, settled643}
 
 -- the test that was not there yet, at its place among the five
 second : (a q b : Bool) → (a && (q && b)) ≡ ((a && b) && q)
@@ -57,11 +57,11 @@ module _ (s : Settled) (r : Row643) where
   unfolding settled643
   frequency_joins q e = rw e (third own aged (filter643 q r) (weighed && of_surface))
 
-  pub weight_joins : (x : ℕ) → s.weight ≡ Blank → settled643 (and_weight s x) r ≡ (settled643 s r && filter643 (FitsMeasure Weight x) r)
+  pub weight_joins : (x : ℕ) → s.weight ≡ Blank → settled643 (and_measure s Weight x) r ≡ (settled643 s r && filter643 (FitsMeasure Weight x) r)
   unfolding settled643
   weight_joins x e = rw e (fourth own aged as_often (filter643 (FitsMeasure Weight x) r) of_surface)
 
-  pub surface_joins : (x : ℕ) → s.surface ≡ Blank → settled643 (and_surface s x) r ≡ (settled643 s r && filter643 (FitsMeasure Surface x) r)
+  pub surface_joins : (x : ℕ) → s.surface ≡ Blank → settled643 (and_measure s Surface x) r ≡ (settled643 s r && filter643 (FitsMeasure Surface x) r)
   unfolding settled643
   surface_joins x e = rw e (fifth own aged as_often weighed (filter643 (FitsMeasure Surface x) r))
 

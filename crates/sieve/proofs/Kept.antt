@@ -5,6 +5,7 @@ use mathlib.Core.Path.{◌≡◌, ◌∙◌, ap, ap₂, fun_ext}
 use mathlib.Core.Bool.{Bool, true, false, ◌&&◌, and-true, and_assoc}
 use mathlib.Core.List.{List}
 use native.Mathlib.Omega.{arith}
+use Rattle.std.specs.Prelude.{Option, None, Some, is_some}
 use Rattle.guideline.specs.declared.rows.Row643.{Row643}
 use Rattle.guideline.specs.declared.rows.TableName.TheVariants.{T643}
 use Rattle.guideline.specs.declared.view.View.{View}
@@ -34,12 +35,9 @@ module _ (l : List ℕ) (v : View) (s : Settled) (p : Row643 → Bool) where
   unfolding kept
   some_found = rows_found T643 l v (λ r. settled643 s r && p r)
 
-  module _ {r : ℕ} (k : First (passing l v s p) v.rows r) where
-    pub first_none : r ≡ v.rows → some (kept l v s p) ≡ false
-    first_none e = some_missed (λ i below. k.1 i (omega arith))
-
-    pub first_some : (r ≡ v.rows → ⊥) → some (kept l v s p) ≡ true
-    first_some z = some_found r (omega arith) (k.2 (omega arith))
+  pub first_tells : (r : Option ℕ) → First (passing l v s p) v.rows r → some (kept l v s p) ≡ is_some r
+  first_tells None k = some_missed k
+  first_tells (Some i) k = some_found i k.0 k.2
 
 -- the rows that are kept by a filter more are those of the rows before that pass it
 module _ (l : List ℕ) (v : View) (s more : Settled) (q : Filter) (joins : (r : Row643) → settled643 more r ≡ (settled643 s r && filter643 q r)) where
@@ -49,12 +47,12 @@ module _ (l : List ℕ) (v : View) (s more : Settled) (q : Filter) (joins : (r :
       fun_ext (λ (p : Row643 → Bool). ap (shown T643 l v) (fun_ext (λ r. ap (λ (b : Bool). b && p r) (joins r) ∙ and_assoc (settled643 s r) (filter643 q r) (p r))))
 
   -- also where they are seen from the first row on that passes it
-  from_first : {i : ℕ} → First (passing l v s (filter643 q)) v.rows i → kept l (narrowed v i v.rows) more ≡ kept l v more
+  from_first : {i : ℕ} → First (passing l v s (filter643 q)) v.rows (Some i) → kept l (narrowed v i v.rows) more ≡ kept l v more
   unfolding kept
   from_first {i} k =
-      fun_ext (λ (p : Row643 → Bool). narrowed_answers T643 l v i v.rows (λ r. settled643 more r && p r) k.0 (omega arith) (λ j below. ap (λ (b : Bool). b && p (row_at T643 l v j)) (joins (row_at T643 l v j) ∙ k.1 j below)) (λ j above below. absurd (let z : ⊥ = omega arith in z)))
+      fun_ext (λ (p : Row643 → Bool). narrowed_answers T643 l v i v.rows (λ r. settled643 more r && p r) (omega (arith, k.0)) (omega arith) (λ j below. ap (λ (b : Bool). b && p (row_at T643 l v j)) (joins (row_at T643 l v j) ∙ k.1 j below)) (λ j above below. absurd (let z : ⊥ = omega arith in z)))
 
-  pub narrowed_kept : {i : ℕ} {u : View} {w : Settled} → First (passing l v s (filter643 q)) v.rows i → u ≡ narrowed v i v.rows → w ≡ more → kept l u w ≡ among (filter643 q) (kept l v s)
+  pub narrowed_kept : {i : ℕ} {u : View} {w : Settled} → First (passing l v s (filter643 q)) v.rows (Some i) → u ≡ narrowed v i v.rows → w ≡ more → kept l u w ≡ among (filter643 q) (kept l v s)
   narrowed_kept k cut settled = ap₂ (kept l) cut settled ∙ from_first k ∙ joined_kept
 
 -- the category only

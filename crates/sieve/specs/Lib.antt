@@ -1,3 +1,4 @@
 pub mod Settled
 pub mod Places
 pub mod Matched
+pub mod Needed

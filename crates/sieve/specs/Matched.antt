@@ -1,5 +1,5 @@
 -- What the search of step 9 finds.
-use Rattle.std.specs.Prelude.{ℕ, ◌<◌, ◌≡◌, false, cond, List}
+use Rattle.std.specs.Prelude.{ℕ, ◌≡◌, false, cond, List, Option, None, Some}
 use Rattle.guideline.specs.declared.rows.Row643.{Row643}
 use Rattle.guideline.specs.declared.view.View.{View}
 use Rattle.guideline.specs.Table.{Table, some}
@@ -8,8 +8,6 @@ use Rattle.filter.specs.declared.Filter.{Filter}
 use Rattle.filter.specs.declared.Filter.TheVariants.{Exact, Twin}
 use Rattle.filter.specs.Filters.{filter643}
 use Rattle.sieve.specs.declared.settled.Settled.{Settled}
-use Rattle.sieve.specs.declared.search.Place.{Place}
-use Rattle.sieve.specs.declared.search.Place.TheVariants.{At, Nowhere}
 use Rattle.sieve.specs.Settled.{kept}
 use Rattle.sieve.specs.Places.{passing, First}
 
@@ -18,8 +16,8 @@ abbrev pub frequency_kept : Frequency → Table Row643 → Filter
 frequency_kept f t = cond (some (t (filter643 (Exact f)))) (Exact f) (Twin f)
 
 -- where the first row that has the frequency stands, and by which filter; or that no row has it
-abbrev pub Matched : List ℕ → View → Settled → Frequency → Place → Type 0
-Matched l v s f (At i q) =
-    (q ≡ frequency_kept f (kept l v s)) × (i < v.rows) × First (passing l v s (filter643 q)) v.rows i
-Matched l v s f Nowhere =
+abbrev pub Matched : List ℕ → View → Settled → Frequency → Option (ℕ × Filter) → Type 0
+Matched l v s f (Some (i, q)) =
+    (q ≡ frequency_kept f (kept l v s)) × First (passing l v s (filter643 q)) v.rows (Some i)
+Matched l v s f None =
     (some (kept l v s (filter643 (Exact f))) ≡ false) × (some (kept l v s (filter643 (Twin f))) ≡ false)

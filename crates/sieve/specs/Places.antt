@@ -1,5 +1,5 @@
 -- The first place with a property, and what a row at a place has to pass.
-use Rattle.std.specs.Prelude.{ℕ, ◌≤◌, ◌<◌, ◌≡◌, Bool, true, false, ◌&&◌, List}
+use Rattle.std.specs.Prelude.{ℕ, ◌<◌, ◌≡◌, Bool, true, false, ◌&&◌, List, Option, None, Some}
 use Rattle.guideline.specs.declared.rows.Row643.{Row643}
 use Rattle.guideline.specs.declared.rows.TableName.TheVariants.{T643}
 use Rattle.guideline.specs.declared.view.View.{View}
@@ -15,6 +15,7 @@ passing l v s p i = settled643 s (row_at T643 l v i) && p (row_at T643 l v i)
 abbrev pub Missed : (ℕ → Bool) → ℕ → Type 0
 Missed h n = (i : ℕ) → i < n → h i ≡ false
 
--- the first of n places that has it; n if none has
-abbrev pub First : (ℕ → Bool) → ℕ → ℕ → Type 0
-First h n r = (r ≤ n) × Missed h r × (r < n → h r ≡ true)
+-- the first of n places that has it, if one has
+abbrev pub First : (ℕ → Bool) → ℕ → Option ℕ → Type 0
+First h n (Some i) = (i < n) × Missed h i × (h i ≡ true)
+First h n None = Missed h n

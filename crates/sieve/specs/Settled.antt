@@ -27,17 +27,11 @@ abbrev pub and_frequency : Settled → Filter → Settled
 and_frequency s f =
     record { category = s.category; age = s.age; frequency = f; weight = s.weight; surface = s.surface }
 
-abbrev pub and_weight : Settled → ℕ → Settled
-and_weight s x =
-    record { category = s.category; age = s.age; frequency = s.frequency; weight = Given x; surface = s.surface }
-
-abbrev pub and_surface : Settled → ℕ → Settled
-and_surface s x =
-    record { category = s.category; age = s.age; frequency = s.frequency; weight = s.weight; surface = Given x }
-
 abbrev pub and_measure : Settled → Measure → ℕ → Settled
-and_measure s Weight x = and_weight s x
-and_measure s Surface x = and_surface s x
+and_measure s Weight x =
+    record { category = s.category; age = s.age; frequency = s.frequency; weight = Given x; surface = s.surface }
+and_measure s Surface x =
+    record { category = s.category; age = s.age; frequency = s.frequency; weight = s.weight; surface = Given x }
 
 -- what is settled of the measure, and of the other
 abbrev pub own_value : Measure → Settled → Value
@@ -49,13 +43,15 @@ other_value Weight s = s.surface
 other_value Surface s = s.weight
 
 -- the filter that a value stands for: nothing is settled yet where it is blank
+abbrev pub value_filter : (ℕ → Filter) → Value → Filter
+value_filter f Blank = Every
+value_filter f (Given x) = f x
+
 abbrev pub age_filter : Value → Filter
-age_filter Blank = Every
-age_filter (Given months) = Age months
+age_filter = value_filter Age
 
 abbrev pub measure_filter : Measure → Value → Filter
-measure_filter m Blank = Every
-measure_filter m (Given x) = FitsMeasure m x
+measure_filter m = value_filter (FitsMeasure m)
 
 -- a row passes all that is settled
 unfoldable pub settled643 : Settled → Row643 → Bool

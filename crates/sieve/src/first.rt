@@ -13,20 +13,17 @@ use guideline::view::View;
 use keys::next::next;
 
 impl Settled {
-    // The number of rows if there is none.
-    pub fn first(self, t: &[u8], v: View, filter: Filter) -> usize
+    pub fn first(self, t: &[u8], v: View, filter: Filter) -> Option<usize>
         requires { Fits (width T643) v (length t.now) }
         ensures { First (passing t.now v self (filter643 filter)) v.rows result }
     {
-        let rows = v.rows;
-        let category = self.category;
-        let mut i = next(t, v, t643::KEY, category, 0);
-        while i < rows {
+        let mut i = next(t, v, t643::KEY, self.category, 0);
+        while i < v.rows {
             if self.passes_and(t643::row(t, v, i), filter) {
-                return i;
+                return Some(i);
             }
-            i = next(t, v, t643::KEY, category, i + 1);
+            i = next(t, v, t643::KEY, self.category, i + 1);
         }
-        rows
+        None
     }
 }

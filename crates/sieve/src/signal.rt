@@ -18,10 +18,10 @@ impl Settled {
         ensures { result ≡ signal p (kept t643.now v self) }
     {
         let f = filter::entered(p);
-        if self.first(t643, v, Filter::UnitOrTwin(f)) < v.rows {
+        if self.first(t643, v, Filter::UnitOrTwin(f)).is_some() {
             return Signal::OnlyCount;
         }
-        if self.first(t643, v, Filter::Count(f)) < v.rows {
+        if self.first(t643, v, Filter::Count(f)).is_some() {
             return Signal::OnlyUnit;
         }
         Signal::Both

@@ -16,14 +16,12 @@ impl Settled {
         requires { Fits (width T643) v (length t.now) }
         ensures { result ≡ tally_of T643 t.now v (settled643 self) }
     {
-        let rows = v.rows;
-        let category = self.category;
         let mut count: usize = 0;
         let mut last: usize = 0;
-        let mut i = next(t, v, t643::KEY, category, 0);
-        while i < rows {
+        let mut i = next(t, v, t643::KEY, self.category, 0);
+        while i < v.rows {
             let here = i;
-            i = next(t, v, t643::KEY, category, here + 1);
+            i = next(t, v, t643::KEY, self.category, here + 1);
             if self.passes(t643::row(t, v, here)) {
                 count += 1;
                 last = here;

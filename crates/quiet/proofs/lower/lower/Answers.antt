@@ -35,8 +35,8 @@ overflow_add-i c = let h = c.requires.0.few in search (h, rules)
 pub next-i-requires-in-loop-i : goal.next-i-requires-in-loop-i
 next-i-requires-in-loop-i c = (fits_less 1 (omega arith) c.requires.0, omega arith)
 
-pub judge-judged-requires : goal.judge-judged-requires
-judge-judged-requires c = (c.requires.1, c.requires.2, c.requires.3)
+pub judge-requires : goal.judge-requires
+judge-requires c = (c.requires.1, c.requires.2, c.requires.3)
 
 pub returns-in_default : goal.returns-in_default
 unfolding lower
@@ -45,7 +45,7 @@ returns-in_default c =
     let l = a.t643.now in
     let b = bars a.t649.now in
     let m = more_than a.t649.now a.p a.q in
-    let here = c.judge-judged.ensures ∙ ap (λ (r : Row643). judged (settled643 a.s r && b r) (settled643 a.s r && m r)) c.row-row.ensures in
+    let here = c.judge.ensures ∙ ap (λ (r : Row643). judged (settled643 a.s r && b r) (settled643 a.s r && m r)) c.row-row.ensures in
     let bar = barred _ _ (sym here ∙ c.in_default.is) in
     rw (some_found l a.v a.s b _ (omega arith) bar)
 
@@ -55,8 +55,8 @@ loop-i-preserved c =
     let l = a.t643.now in
     let b = bars a.t649.now in
     let m = more_than a.t649.now a.p a.q in
-    let here = c.judge-judged.ensures ∙ ap (λ (r : Row643). judged (settled643 a.s r && b r) (settled643 a.s r && m r)) c.row-row.ensures in
-    let free = freed _ _ (sym here ∙ c.in-Free.is) in
+    let here = c.judge.ensures ∙ ap (λ (r : Row643). judged (settled643 a.s r && b r) (settled643 a.s r && m r)) c.row-row.ensures in
+    let free = freed _ _ (sym here ∙ c.in-Some.is) in
     let looked = looked_on l a.v a.s m c.loop-i.invariant.1 (omega arith) free.1 c.next-i-in-loop-i.ensures in
     (pass_miss l a.v a.s b c.loop-i.invariant.0 free.0 c.next-i-in-loop-i.ensures, rw c.either-more.ensures looked)
 

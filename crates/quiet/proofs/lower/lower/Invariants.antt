@@ -24,4 +24,4 @@ abbrev pub invariant-loop-i : goal.invariant-loop-i
 invariant-loop-i l = Passed (passing l.t643 l.v l.s (bars l.t649)) l.v.rows l.i × Looked (passing l.t643 l.v l.s (more_than l.t649 l.p l.q)) l.v.rows l.i l.more
 
 abbrev pub decreases-loop-i : goal.decreases-loop-i
-decreases-loop-i l = l.rows - l.i
+decreases-loop-i l = l.v.rows - l.i

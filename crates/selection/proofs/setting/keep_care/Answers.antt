@@ -1,6 +1,8 @@
 -- The care group that is kept is the definition's. Assumes nothing.
 use mathlib.Core.Path.{sym, ◌∙◌}
+use borrow.Author.Rules.{rules}
 use borrow.Author.Tests.{eq-eqb, ne_eqb}
+use Rattle.tables.specs.Tests.{by_care}
 use Rattle.selection.specs.Kept.{care_kept}
 use Rattle.selection.proofs.setting.keep_care.Goals as goal
 
@@ -10,9 +12,9 @@ returns-then-s-ne-INTENSIVE_CARE c = rw (ne_eqb _ _ c.if-s-ne-INTENSIVE_CARE.tru
 
 pub returns-then-any : goal.returns-then-any
 unfolding care_kept
-returns-then-any c = rw (eq-eqb _ _ c.if-s-ne-INTENSIVE_CARE.false, sym c.any.ensures ∙ c.if-any.true)
+returns-then-any c = rw (eq-eqb _ _ c.if-s-ne-INTENSIVE_CARE.false, sym (c.any.ensures (by_care c.args.s) (λ row b post. search rules)) ∙ c.if-any.true)
 
 pub returns : goal.returns
 unfolding care_kept
 returns c =
-    rw (eq-eqb _ _ c.if-s-ne-INTENSIVE_CARE.false, sym c.any.ensures ∙ c.if-any.false) c.all_care.ensures
+    rw (eq-eqb _ _ c.if-s-ne-INTENSIVE_CARE.false, sym (c.any.ensures (by_care c.args.s) (λ row b post. search rules)) ∙ c.if-any.false) c.all_care.ensures

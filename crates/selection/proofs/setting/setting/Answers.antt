@@ -1,23 +1,16 @@
--- The stretch of the basis answers as the table does. Assumes nothing.
+-- The setting that is kept has the rows that step 6's plan keeps. Assumes nothing.
 use mathlib.Core.Path.{◌∙◌, ap}
 use Rattle.guideline.specs.declared.rows.Row642.{Row642}
-use Rattle.guideline.specs.declared.rows.TableName.TheVariants.{T642}
-use Rattle.guideline.specs.declared.refusals.Ending.TheVariants.{NoSetting, SettingSeveral}
-use Rattle.guideline.specs.Ask.{run}
-use Rattle.guideline.specs.Table.{Table, every}
-use Rattle.guideline.specs.Forms.{one}
-use Rattle.guideline.specs.Steps.{keep_care, keep_reason, keep_route, setting}
-use Rattle.cells.proofs.Views.{rows_fit}
-use Rattle.keys.proofs.Answers.{stretch_fits}
-use Rattle.tables.proofs.Stretches.{stretch_among}
-use Rattle.selection.specs.Chosen.{chosen642}
+use Rattle.guideline.specs.Steps.{setting}
+use Rattle.guideline.specs.Table.{Table}
+use Rattle.keys.specs.Rows.{lent_rows}
+use Rattle.selection.specs.Kept.{care_kept, reason_kept, route_found}
+use Rattle.selection.proofs.Kept.{setting_rows}
 use Rattle.selection.proofs.setting.setting.Goals as goal
 
 pub returns : goal.returns
 unfolding setting
 returns c d =
-    let a = c.args in
-    c.of_basis-2.ensures d ∙ ap (λ (t : Table Row642). chosen642 (run d (one (keep_route a.s.route (keep_reason a.s.reason a.s.icpcto (keep_care a.s.care t)) every) NoSetting SettingSeveral))) (stretch_among T642 c.of_basis.ensures)
-
-pub of_basis-requires-2 : goal.of_basis-requires-2
-of_basis-requires-2 c = stretch_fits T642 c.of_basis.ensures (rows_fit T642 c.args.t642.now)
+    let kept = rw (c.keep_reason-for_reason.ensures, c.keep_care-in_care.ensures) at c.keep_route.ensures in
+    let rows = ap (λ (u : Table Row642). route_found u (reason_kept u (care_kept u c.args.s))) c.of_key-rows.ensures.rows in
+    rw (← setting_rows (lent_rows c.args.t642) c.args.s c.args.basis) (c.one.ensures _ (kept ∙ rows) d)

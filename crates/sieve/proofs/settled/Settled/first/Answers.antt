@@ -25,7 +25,7 @@ pub returns-then-passes_and : goal.returns-then-passes_and
 returns-then-passes_and c =
     let a = c.args in
     let here = c.passes_and.ensures ∙ ap (λ (r : Row643). settled643 a.self r && filter643 a.filter r) c.row.ensures in
-    (omega arith, c.loop-i.invariant.1, λ below. sym here ∙ c.if-passes_and.true)
+    (omega arith, c.loop-i.invariant.1, sym here ∙ c.if-passes_and.true)
 
 pub overflow_add-i : goal.overflow_add-i
 overflow_add-i c = let h = c.requires.few in search (h, rules)
@@ -40,4 +40,4 @@ loop-i-preserved c =
     pass_miss a.t.now a.v a.self (filter643 a.filter) c.loop-i.invariant (sym here ∙ c.if-passes_and.false) c.next-i-in-loop-i.ensures
 
 pub returns : goal.returns
-returns c = (omega arith, passed_all c.loop-i.invariant (omega arith), λ below. absurd (let z : ⊥ = omega arith in z))
+returns c = passed_all c.loop-i.invariant (omega arith)

@@ -10,4 +10,4 @@ abbrev pub invariant-loop-i : goal.invariant-loop-i
 invariant-loop-i l = Visiting (key_of l.t l.v (key_at T643)) l.v.rows l.self.category (λ j. settled643 l.self (row_at T643 l.t l.v j)) l.i l.count l.last
 
 abbrev pub decreases-loop-i : goal.decreases-loop-i
-decreases-loop-i l = l.rows - l.i
+decreases-loop-i l = l.v.rows - l.i
