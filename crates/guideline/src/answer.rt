@@ -97,3 +97,10 @@ pub struct Compared {
     pub high: u32,
     pub low: u32,
 }
+
+// How a check ends that reaches step 12.
+#[derive(Clone, Copy)]
+pub struct Verdict {
+    pub compared: Compared,
+    pub reached: Reached,
+}

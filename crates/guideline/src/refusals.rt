@@ -1,11 +1,12 @@
 // How a check ends before step 12.
 ghost use Rattle.std.specs.Prelude.{◌≡◌};
 ghost use Rattle.guideline.specs.declared.refusals.Refusal.TheVariants.{Asks};
-ghost use Rattle.guideline.specs.Ask.{no_refusal};
+ghost use Rattle.guideline.specs.Ask.{no_refusal, asks_for};
 ghost use Rattle.guideline.specs.Steps.{nothing};
 ghost use Rattle.guideline.specs.Results.{stopped_at, answered_at};
 
 use crate::answer::Reached;
+use crate::entries::Datum;
 use crate::rows::TableName;
 
 // A question: the datum that it asks for and the step that asks. One datum may be asked for at several places.
@@ -19,6 +20,21 @@ pub enum Question {
     SurfacePerDay,
     WeightOfRow,
     SurfaceOfRow,
+}
+
+impl Question {
+    pub fn asks_for(self) -> Datum
+        ensures { result ≡ asks_for self }
+    {
+        match self {
+            Question::AgeOfPerson => Datum::Age,
+            Question::SexOfPerson => Datum::Sex,
+            Question::HpkOfLevel => Datum::Hpk,
+            Question::PrkOfLevel => Datum::Prk,
+            Question::WeightPerDay | Question::WeightOfRow => Datum::Weight,
+            Question::SurfacePerDay | Question::SurfaceOfRow => Datum::Surface,
+        }
+    }
 }
 
 // What the frequency differs in, where no row has it.

@@ -1,4 +1,6 @@
 // The tables by their numbers, and their rows.
+ghost use Rattle.std.specs.Prelude.{◌≡◌};
+ghost use Rattle.guideline.specs.Rows.{table_number};
 
 #[derive(Clone, Copy)]
 pub enum TableName {
@@ -9,6 +11,23 @@ pub enum TableName {
     T649,
     T730,
     T070,
+}
+
+impl TableName {
+    // As the papers and the answers have it.
+    pub fn number(self) -> u32
+        ensures { result ≡ table_number self }
+    {
+        match self {
+            TableName::T640 => 640,
+            TableName::T641 => 641,
+            TableName::T642 => 642,
+            TableName::T643 => 643,
+            TableName::T649 => 649,
+            TableName::T730 => 730,
+            TableName::T070 => 70,
+        }
+    }
 }
 
 // The rows of the tables, fields in document 01's order and under its names; those of table 70 (P5) in document 004's.
