@@ -3,3 +3,4 @@ pub mod Hits
 pub mod Rising
 pub mod Seen
 pub mod Rows
+pub mod Tables

@@ -10,4 +10,5 @@ pub mod next;
 pub mod rows;
 pub mod seen;
 pub mod stretch;
+pub mod tables;
 pub mod tally;

@@ -1,4 +1,3 @@
 pub mod Asked
 pub mod Given
 pub mod Kept
-pub mod Linked

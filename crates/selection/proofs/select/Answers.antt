@@ -3,18 +3,22 @@ use mathlib.Core.Path.{◌∙◌, ap}
 use Rattle.std.specs.Prelude.{Err}
 use Rattle.std.proofs.lemmas.Result.{err_from_is_err_and}
 use Rattle.guideline.specs.declared.context.Context.{Context}
+use Rattle.guideline.specs.Bytes.{seen, spelled}
 use Rattle.guideline.specs.Entries.{datum}
-use Rattle.guideline.specs.Steps.{nothing, to_basis, to_category, to_rule}
+use Rattle.guideline.specs.Steps.{selection, nothing, to_basis, to_category, to_rule}
+use Rattle.cells.specs.Lents.{shown_by}
 use Rattle.guideline.proofs.Ended.{stops, passes, stops_at, passes_at}
 use Rattle.selection.proofs.select.Goals as goal
 
 pub returns-in_err-product : goal.returns-in_err-product
+unfolding selection spelled shown_by seen
 returns-in_err-product c =
     let d = datum c.args.d in
     let e = err_from_is_err_and c.from_residual.result c.from_residual.ensures.1 in
     rw (e.1, e.2) (stops d nothing _ _ (c.product.ensures d) c.in_err-product.was)
 
 pub returns-in_err-age : goal.returns-in_err-age
+unfolding selection spelled shown_by seen
 returns-in_err-age c =
     let d = datum c.args.d in
     let e = err_from_is_err_and c.from_residual-in_err-age.result c.from_residual-in_err-age.ensures.1 in
@@ -22,6 +26,7 @@ returns-in_err-age c =
     ∙ passes d nothing _ _ (c.product.ensures d) c.in_ok-product.was)
 
 pub returns-in_err-level : goal.returns-in_err-level
+unfolding selection spelled shown_by seen
 returns-in_err-level c =
     let d = datum c.args.d in
     let e = err_from_is_err_and c.from_residual-in_err-level.result c.from_residual-in_err-level.ensures.1 in
@@ -30,6 +35,7 @@ returns-in_err-level c =
     ∙ passes d nothing _ _ (c.product.ensures d) c.in_ok-product.was)
 
 pub returns-in_err-setting : goal.returns-in_err-setting
+unfolding selection spelled shown_by seen
 returns-in_err-setting c =
     let d = datum c.args.d in
     let l = c.in_ok-level.level in
@@ -40,6 +46,7 @@ returns-in_err-setting c =
     ∙ passes d nothing _ _ (c.product.ensures d) c.in_ok-product.was)
 
 pub returns-in_err-row : goal.returns-in_err-row
+unfolding selection spelled shown_by seen
 returns-in_err-row c =
     let d = datum c.args.d in
     let l = c.in_ok-level.level in
@@ -52,6 +59,7 @@ returns-in_err-row c =
     ∙ passes d nothing _ _ (c.product.ensures d) c.in_ok-product.was)
 
 pub returns-in_err-limits : goal.returns-in_err-limits
+unfolding selection spelled shown_by seen
 returns-in_err-limits c =
     let d = datum c.args.d in
     let l = c.in_ok-level.level in
@@ -65,6 +73,7 @@ returns-in_err-limits c =
     ∙ passes d nothing _ _ (c.product.ensures d) c.in_ok-product.was)
 
 pub returns : goal.returns
+unfolding selection spelled shown_by seen
 returns c =
     let d = datum c.args.d in
     let l = c.in_ok-level.level in

@@ -1,0 +1,13 @@
+-- The seven tables, of each of which something was seen, and the bytes of each.
+use Rattle.guideline.specs.declared.rows.TableName.TheVariants.{T640, T641, T642, T643, T649, T730, T070}
+use Rattle.guideline.specs.Bytes.{Lents}
+use Rattle.keys.specs.declared.tables.SeenTables.{SeenTables}
+
+abbrev pub bytes_of : SeenTables → Lents
+bytes_of t T640 = t.t640.bytes.now
+bytes_of t T641 = t.t641.bytes.now
+bytes_of t T642 = t.t642.bytes.now
+bytes_of t T643 = t.t643.bytes.now
+bytes_of t T649 = t.t649.bytes.now
+bytes_of t T730 = t.t730.bytes.now
+bytes_of t T070 = t.t070.bytes.now
