@@ -2,7 +2,7 @@
 use Rattle.std.specs.Prelude.{ℕ, ◌+◌, ◌*◌, ◌-◌, ◌≤◌, ◌<◌, cond, ◌≡◌, List, [], ◌∷◌, leb, ltb, length}
 use Rattle.decimals.specs.Put.{Put}
 use Rattle.guideline.specs.Types.{Counted}
-use Rattle.guideline.specs.Types.{All, RangeRefused as Refused}
+use Rattle.guideline.specs.Types.{AllCounts, RangeRefused as Refused}
 use Rattle.guideline.specs.declared.entries.Entry.{Entry}
 use Rattle.guideline.specs.Bytes.{Lents, spelled}
 use Rattle.guideline.specs.Rows.{Tables}
@@ -24,7 +24,7 @@ answer_line t e = line (numbers_of (check t e))
 
 -- and from the range check, f i the numbers of answer i: "it prints `131` or `132`, or one line for each answer"
 abbrev pub counted_lines : (ℕ → List ℕ) → Counted → List ℕ
-counted_lines f (All n) = in_turn (λ i. line (f i)) n
+counted_lines f (AllCounts n) = in_turn (λ i. line (f i)) n
 counted_lines f (Refused why) = line (refusal_number why ∷ [])
 
 unfoldable pub range_lines : Tables → Entry → Wanted → List ℕ
@@ -52,7 +52,7 @@ longest_text Range = longest_range
 
 -- at most 16 answers, all inside a list of so many numbers
 abbrev pub InList : Counted → ℕ → Type 0
-InList (All n) long = (n ≤ most_counts) × (n * answer_length ≤ long)
+InList (AllCounts n) long = (n ≤ most_counts) × (n * answer_length ≤ long)
 InList (Refused why) long = Unit {0}
 
 -- what was tested of the tables

@@ -3,7 +3,7 @@ use Prim.Native.Nat.{ℕ, ◌*◌}
 use mathlib.Core.List.{List, ◌++◌}
 use mathlib.Core.Path.{◌≡◌, refl}
 use lib.ListN.{drop}
-use Rattle.guideline.specs.Types.{All, RangeRefused as Refused}
+use Rattle.guideline.specs.Types.{AllCounts, RangeRefused as Refused}
 use Rattle.guideline.specs.declared.counted.RangeRefusal.{RangeRefusal}
 use Rattle.guideline.specs.declared.entries.Entry.{Entry}
 use Rattle.guideline.specs.Rows.{Tables}
@@ -15,6 +15,6 @@ module _ (t : Tables) (e : Entry) (first last : ℕ) (list : List ℕ) where
   unfolding list_after
   refused_list why h = rw h refl
 
-  pub answers_list : (n : ℕ) → counted first last (places_in list) ≡ All n → list_after t e first last list ≡ answers_from t e first n ++ drop (n * answer_length) list
+  pub answers_list : (n : ℕ) → counted first last (places_in list) ≡ AllCounts n → list_after t e first last list ≡ answers_from t e first n ++ drop (n * answer_length) list
   unfolding list_after
   answers_list n h = rw h refl
