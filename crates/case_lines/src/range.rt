@@ -54,7 +54,12 @@ fn put_places(list: &[u32], n: usize, out: &mut [u8], at: usize) -> usize
     end
 }
 
-fn put_counted(counted: Result<usize, RangeRefusal>, list: &[u32], out: &mut [u8], at: usize) -> usize
+fn put_counted(
+    counted: Result<usize, RangeRefusal>,
+    list: &[u32],
+    out: &mut [u8],
+    at: usize,
+) -> usize
     requires { InList counted (length list.now) × (at + longest_range ≤ length out.old) }
     ensures { Put out.old at (counted_lines (λ i. numbers_at i list.now) counted) out.new result × (result ≤ at + longest_range) }
 {
