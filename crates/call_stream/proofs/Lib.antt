@@ -1,5 +1,6 @@
 pub mod Finding
 pub mod Ending
+pub mod Moving
 pub mod Taking
 pub mod Pieces
 pub mod Examples
