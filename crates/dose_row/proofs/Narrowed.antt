@@ -1,5 +1,4 @@
 -- The steps that filter, told by whether there is a row that passes. Assumes nothing.
-use Prim.Native.Nat.{ℕ, zero, suc}
 use mathlib.Core.Path.{◌≡◌, refl, sym, ◌∙◌, ap}
 use mathlib.Core.Bool.{Bool, true, false, cond}
 use Rattle.std.specs.Prelude.{Result}
@@ -9,21 +8,19 @@ use Rattle.guideline.specs.declared.entries.Datum.{Datum}
 use Rattle.guideline.specs.declared.entries.Prescription.{Prescription}
 use Rattle.guideline.specs.Types.{Value}
 use Rattle.guideline.specs.declared.refusals.Ending.{Ending}
-use Rattle.guideline.specs.declared.refusals.Ending.TheVariants.{Suppressed, NoFrequency, RowsSeveral}
+use Rattle.guideline.specs.declared.refusals.Ending.TheVariants.{Suppressed, NoFrequency}
 use Rattle.guideline.specs.declared.refusals.Question.{Question}
 use Rattle.guideline.specs.declared.refusals.Refusal.{Refusal}
 use Rattle.guideline.specs.declared.refusals.Refusal.TheVariants.{Ends}
 use Rattle.guideline.specs.declared.rows.Row643.{Row643}
 use Rattle.guideline.specs.declared.rows.Row649.{Row649}
 use Rattle.guideline.specs.Values.{fits, matters}
-use Rattle.guideline.specs.Ask.{asks_for, Outcome, Chosen, Refused, Done, run}
-use Rattle.guideline.specs.Table.{Table, some, among, every}
-use Rattle.guideline.specs.Forms.{when, refuse, choose, one, narrow}
+use Rattle.guideline.specs.Ask.{asks_for, Outcome, Chosen, Refused, run}
+use Rattle.guideline.specs.Table.{Table, some, among}
+use Rattle.guideline.specs.Forms.{when, refuse, narrow}
 use Rattle.guideline.specs.Quiet.{suppresses}
-use Rattle.guideline.specs.Steps.{signal, no_frequency, by_frequency, by_measure, one_row}
+use Rattle.guideline.specs.Steps.{signal, no_frequency, by_frequency, by_measure}
 use Rattle.guideline.proofs.Run.{refused_here, chosen_then}
-use Rattle.cells.specs.Tally.{told}
-use Rattle.cells.proofs.Tallied.{told_one}
 use Rattle.filter.specs.declared.Filter.{Filter}
 use Rattle.filter.specs.declared.Filter.TheVariants.{Exact, Twin}
 use Rattle.filter.specs.Filters.{filter643, frequency_of}
@@ -87,18 +84,3 @@ module _ (d : Datum → Value) (question : Question) (none : Ending) (bounds : R
   run_measure {x} e h =
       run_needed d question t (λ x. narrow (λ r. fits (bounds r) x) none t) (some (t (λ r. matters (bounds r)))) x e
       ∙ ap when_needed (sym h)
-
--- step 11
-module _ (t : Table Row643) (d : Datum → Value) (n : ℕ) (r : Row643) (e : t every ≡ told n r) where
-  pub row_one : n ≡ 1 → run d (one_row t) ≡ Chosen r
-  unfolding one_row one choose
-  row_one k = rw (e ∙ told_one r k)
-
-  pub row_several : (n ≡ 1 → ⊥) → run d (one_row t) ≡ Refused (Ends RowsSeveral) tt
-  unfolding one_row one choose refuse
-  row_several z = rw e (go n z)
-    where
-      go : (m : ℕ) → (m ≡ 1 → ⊥) → run d (choose (told m r) (refuse RowsSeveral) (λ a. Done a) (refuse RowsSeveral)) ≡ Refused (Ends RowsSeveral) tt
-      go zero z = refl
-      go (suc zero) z = absurd (z refl)
-      go (suc (suc m)) z = refl

@@ -1,26 +1,25 @@
--- Products past 64 bits: their two limbs, and how they compare. Assumes nothing.
-use Prim.Native.Nat.{◌*◌, ◌%◌, ◌^◌, ◌-◌}
+-- Products past 64 bits: how many times 2 to the 64th, and what is left; and how they compare. Assumes nothing.
+use Prim.Native.Nat.{◌+◌, ◌*◌, ◌%◌, ◌^◌, ◌-◌}
 use mathlib.Core.Path.{◌≡◌, refl}
 use mathlib.Core.Bool.{true, false}
 use lib.Dec.{ltb}
-use Rattle.exact.specs.Wide.{wide}
 
 -- the largest product of a day dose is 9,989,999,989,011,000,000,999, of 74 bits
-pub largest_dose : wide ((999_999_999 * 999) * 9_999_999_999) ≡ record { high = 541; low = 10_311_445_134_132_576_743 }
+pub largest_dose : (999_999_999 * 999) * 9_999_999_999 ≡ 541 * 2 ^ 64 + 10_311_445_134_132_576_743
 largest_dose = refl
 
 -- the largest of all takes every carry
-pub largest : wide ((2 ^ 64 - 1) * (2 ^ 64 - 1)) ≡ record { high = 2 ^ 64 - 2; low = 1 }
+pub largest : (2 ^ 64 - 1) * (2 ^ 64 - 1) ≡ (2 ^ 64 - 2) * 2 ^ 64 + 1
 largest = refl
 
 pub largest_is_not_below_itself : ltb ((2 ^ 64 - 1) * (2 ^ 64 - 1)) ((2 ^ 64 - 1) * (2 ^ 64 - 1)) ≡ false
 largest_is_not_below_itself = refl
 
--- two products of 22 digits that differ by 999: their high limbs are equal, and the low limbs decide
-pub near : wide ((999_999_998 * 999) * 8_999_999_992) ≡ record { high = 487; low = 7_435_610_129_448_378_992 }
+-- two products of 22 digits that differ by 999: their high 64 bits are equal, and the low ones decide
+pub near : (999_999_998 * 999) * 8_999_999_992 ≡ 487 * 2 ^ 64 + 7_435_610_129_448_378_992
 near = refl
 
-pub nearer : wide ((999_999_999 * 999) * 8_999_999_983) ≡ record { high = 487; low = 7_435_610_129_448_379_991 }
+pub nearer : (999_999_999 * 999) * 8_999_999_983 ≡ 487 * 2 ^ 64 + 7_435_610_129_448_379_991
 nearer = refl
 
 pub low_limbs_decide : ltb ((999_999_998 * 999) * 8_999_999_992) ((999_999_999 * 999) * 8_999_999_983) ≡ true

@@ -17,22 +17,22 @@ use Rattle.guideline.specs.Rows.{keyed}
 use Rattle.guideline.specs.Forms.{when, refuse, demand, choose}
 use Rattle.guideline.specs.Filling.{of_hpk, agrees, filled_by, filling}
 use Rattle.guideline.specs.Results.{answered}
-use Rattle.tables.specs.Found.{found070}
-use Rattle.tables.specs.declared.t070.Found070.{Found070}
-use Rattle.tables.specs.declared.t070.Found070.TheVariants as found
+use Rattle.tables.specs.Found.{found}
+use Rattle.tables.specs.declared.found.Found.{Found}
+use Rattle.tables.specs.declared.found.Found.TheVariants.{Nothing, One as FoundOne, Many as FoundMany}
 use Rattle.filling.specs.Fills.{by_row}
 
 -- by what table 70 has of the HPK
 abbrev by_hits : Hits Row070 → Entry → Step Entry
 by_hits h e = choose h (Done e) (λ r. demand (agrees r e) HpkRowDiffers >> Done (filled_by r e)) (refuse HpkRowsSeveral)
 
-abbrev pub by_found : Found070 → Entry → Result Entry Refusal
-by_found found.Nothing e = Ok e
-by_found (found.One r) e = by_row r e
-by_found (found.Many n) e = Err (Ends HpkRowsSeveral)
+abbrev pub by_found : Found Row070 → Entry → Result Entry Refusal
+by_found Nothing e = Ok e
+by_found (FoundOne r) e = by_row r e
+by_found (FoundMany n) e = Err (Ends HpkRowsSeveral)
 
 module _ (d : Datum → Value) where
-  comes : (h : Hits Row070) (e : Entry) → by_found (found070 h) e ≡ answered (run d (by_hits h e))
+  comes : (h : Hits Row070) (e : Entry) → by_found (found h) e ≡ answered (run d (by_hits h e))
   unfolding choose demand when refuse ◌>>◌ ◌>>=◌ by_row
   comes None e = refl
   comes (One r) e = go (agrees r e)
@@ -47,9 +47,9 @@ module _ (d : Datum → Value) where
   unfolding filling of_hpk
   without_hpk t e h = comes None e ∙ sym (ap (λ (v : Value). answered (run d (by_hits (of_hpk t v) e))) h)
 
-  pub with_hpk : (t : Table Row070) (e : Entry) (hpk : ℕ) → e.known.hpk ≡ Given hpk → {f k : Found070} → f ≡ found070 (t (keyed T070 hpk)) → f ≡ k → by_found k e ≡ answered (run d (filling t e))
+  pub with_hpk : (t : Table Row070) (e : Entry) (hpk : ℕ) → e.known.hpk ≡ Given hpk → {f k : Found Row070} → f ≡ found (t (keyed T070 hpk)) → f ≡ k → by_found k e ≡ answered (run d (filling t e))
   unfolding filling of_hpk
   with_hpk t e hpk h i j =
-      ap (λ (f : Found070). by_found f e) (sym j ∙ i)
+      ap (λ (f : Found Row070). by_found f e) (sym j ∙ i)
       ∙ comes (t (keyed T070 hpk)) e
       ∙ sym (ap (λ (v : Value). answered (run d (by_hits (of_hpk t v) e))) h)

@@ -2,19 +2,17 @@
 #![tactic(auto)]
 
 ghost use Rattle.std.specs.Prelude.{◌≡◌};
-ghost use Rattle.guideline.specs.declared.rows.TableName.TheVariants.{T070};
 ghost use Rattle.guideline.specs.Filling.{agrees, gpk_filled, filled_by, filling};
 ghost use Rattle.guideline.specs.Results.{Chooses};
-ghost use Rattle.cells.specs.Lents.{rows};
-ghost use Rattle.keys.specs.Seen.{Sees};
+ghost use Rattle.keys.specs.Rows.{lent_rows};
 ghost use Rattle.filling.specs.Fills.{by_row};
 
 use guideline::entries::{Data, Entry, Prescription};
 use guideline::refusals::{Ending, Refusal};
 use guideline::rows::Row070;
 use guideline::{both, either};
-use keys::seen::Seen;
-use tables::t070::Found070;
+use keys::lent::Lent;
+use tables::found::Found;
 
 // A blank PRK and a GPK of 0 do not differ from the row.
 fn agrees(r: Row070, e: Entry) -> bool
@@ -63,16 +61,15 @@ fn by_row(r: Row070, e: Entry) -> Result<Entry, Refusal>
 }
 
 // The filling of an entry. "An HPK with no row fills nothing"; "123 with table 70 for several rows". It asks for no datum.
-pub fn fill(t070: &[u8], s: Seen, e: Entry) -> Result<Entry, Refusal>
-    requires { Sees T070 t070.now s }
-    ensures { Chooses (filling (rows T070 t070.now) e) result }
+pub fn fill(t070: Lent<'_, Row070>, e: Entry) -> Result<Entry, Refusal>
+    ensures { Chooses (filling (lent_rows t070.entry) e) result }
 {
     let Some(hpk) = e.known.hpk else {
         return Ok(e);
     };
-    match tables::t070::ask(t070, s, hpk) {
-        Found070::Nothing => Ok(e),
-        Found070::One(row) => by_row(row, e),
-        Found070::Many(_) => Err(Refusal::Ends(Ending::HpkRowsSeveral)),
+    match tables::look_up(t070, hpk) {
+        Found::Nothing => Ok(e),
+        Found::One(row) => by_row(row, e),
+        Found::Many(_) => Err(Refusal::Ends(Ending::HpkRowsSeveral)),
     }
 }

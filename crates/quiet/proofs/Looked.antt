@@ -1,48 +1,50 @@
--- A loop that goes from row to row of a category and remembers whether it saw a row with a property. Assumes nothing.
-use Prim.Native.Nat.{ℕ, ◌+◌, ◌≤◌, ◌<◌}
+-- A loop that goes from row to row of what is left, and remembers whether it saw a row with a property. Assumes nothing.
+use Prim.Native.Nat.{ℕ, ◌+◌}
 use mathlib.Core.Path.{◌≡◌, refl, sym}
-use mathlib.Core.Bool.{Bool, true, false, ◌||◌, false≢true}
-use mathlib.Core.List.{List}
+use mathlib.Core.Bool.{Bool, true, false, ◌&&◌, ◌||◌, false≢true}
 use native.Mathlib.Omega.{arith}
+use Rattle.std.specs.Prelude.{Option, None, Some}
 use Rattle.guideline.specs.declared.rows.Row643.{Row643}
 use Rattle.guideline.specs.declared.rows.TableName.TheVariants.{T643}
-use Rattle.guideline.specs.declared.view.View.{View}
 use Rattle.guideline.specs.Table.{some}
-use Rattle.cells.specs.Lents.{key_at}
+use Rattle.cells.specs.Keyed.{keyed_read}
+use Rattle.cells.specs.Lents.{row_at, key_at}
+use Rattle.keys.specs.Hits.{Missed}
 use Rattle.keys.specs.Keys.{key_of, Next}
-use Rattle.sieve.specs.declared.settled.Settled.{Settled}
-use Rattle.sieve.specs.Settled.{kept}
-use Rattle.sieve.specs.Places.{passing, Missed}
-use Rattle.sieve.proofs.Passed.{pass_first, pass_miss}
-use Rattle.sieve.proofs.Kept.{some_missed, some_found}
+use Rattle.keys.proofs.Visits.{missed_to, missed_on, first_hit}
+use Rattle.sieve.specs.declared.left.Left.{Left}
+use Rattle.sieve.specs.Left.{kept, passing}
+use Rattle.sieve.specs.Settled.{settled643}
+use Rattle.sieve.proofs.Kept.{first_tells}
 
--- what the loop keeps: where it saw none, none of the rows that it has passed is such; else there is one
-pub record Looked (h : ℕ → Bool) (n i : ℕ) (saw : Bool) : Type 0 where
-  pub none : saw ≡ false → Missed h i
-  pub found : saw ≡ true → (j : ℕ) × (j < n) × (h j ≡ true)
+module _ (s : Left) (p : Row643 → Bool) where
+  -- what the loop keeps: where it saw none, none of the rows that it has passed is such; else there is one
+  abbrev pub Looked : ℕ → Bool → Type 0
+  Looked from saw = (saw ≡ false → Missed (passing s p) from) × (saw ≡ true → some (kept s p) ≡ true)
 
-module _ (l : List ℕ) (v : View) (s : Settled) (p : Row643 → Bool) where
-  abbrev NextOf : ℕ → ℕ → Type 0
-  NextOf = Next (key_of l v (key_at T643)) v.rows s.category
+  abbrev test : Row643 → Bool
+  test r = settled643 s.settled r && p r
 
-  abbrev LookedAt : ℕ → Bool → Type 0
-  LookedAt = Looked (passing l v s p) v.rows
+  abbrev Comes : ℕ → Option ℕ → Type 0
+  Comes = Next (key_of s.rows.bytes.now s.rows.view (key_at T643)) s.rows.view.rows s.rows.key
 
-  pub looked_first : {j : ℕ} → NextOf 0 j → LookedAt j false
-  looked_first x = record { none = λ _. (pass_first l v s p x).1; found = λ e. absurd (false≢true e) }
+  pub looked_first : Looked 0 false
+  looked_first = (λ _ m below. absurd (let z : ⊥ = omega arith in z), λ z. absurd (false≢true z))
 
-  pub looked_on : {i j : ℕ} {saw here : Bool} → LookedAt i saw → i < v.rows → passing l v s p i ≡ here → NextOf (i + 1) j → LookedAt j (saw || here)
-  looked_on {i} {j} {saw} {here} k below e x = go saw here e k.none k.found
+  pub looked_on : {from i : ℕ} {saw here : Bool} → Looked from saw → Comes from (Some i) → test (row_at T643 s.rows.bytes.now s.rows.view i) ≡ here → Looked (i + 1) (saw || here)
+  looked_on {from} {i} {saw} {here} k next e = go saw here e k.0 k.1
     where
-      go : (a b : Bool) → passing l v s p i ≡ b → (a ≡ false → Missed (passing l v s p) i) → (a ≡ true → (m : ℕ) × (m < v.rows) × (passing l v s p m ≡ true)) → LookedAt j (a || b)
-      go true b e none found = record { none = λ z. absurd (false≢true (sym z)); found = λ _. found refl }
-      go false true e none found = record { none = λ z. absurd (false≢true (sym z)); found = λ _. (i, below, e) }
+      go : (a b : Bool) → test (row_at T643 s.rows.bytes.now s.rows.view i) ≡ b → (a ≡ false → Missed (passing s p) from) → (a ≡ true → some (kept s p) ≡ true) → Looked (i + 1) (a || b)
+      go true b e none found = (λ z. absurd (false≢true (sym z)), λ _. found refl)
+      go false true e none found =
+          (λ z. absurd (false≢true (sym z)), λ _. first_tells s p (Some i) (first_hit s.rows (key_at T643) (keyed_read T643) test (none refl) next e))
       go false false e none found =
-          record { none = λ _. (pass_miss l v s p (omega arith, none refl) e x).1; found = λ z. absurd (false≢true z) }
+          (λ _. missed_on s.rows (key_at T643) (keyed_read T643) test (none refl) next e, λ z. absurd (false≢true z))
 
-  pub looked_all : {i : ℕ} {saw : Bool} → LookedAt i saw → v.rows ≤ i → saw ≡ some (kept l v s p)
-  looked_all {i} {saw} k all = go saw k.none k.found
+  pub looked_all : {from : ℕ} {saw : Bool} → Looked from saw → Comes from None → saw ≡ some (kept s p)
+  looked_all {from} {saw} k last = go saw k.0 k.1
     where
-      go : (a : Bool) → (a ≡ false → Missed (passing l v s p) i) → (a ≡ true → (m : ℕ) × (m < v.rows) × (passing l v s p m ≡ true)) → a ≡ some (kept l v s p)
-      go true none found = let f = found refl in sym (some_found l v s p f.0 f.1 f.2)
-      go false none found = sym (some_missed l v s p (λ m below. none refl m (omega arith)))
+      go : (a : Bool) → (a ≡ false → Missed (passing s p) from) → (a ≡ true → some (kept s p) ≡ true) → a ≡ some (kept s p)
+      go true none found = sym (found refl)
+      go false none found =
+          sym (first_tells s p None (missed_to s.rows (key_at T643) (keyed_read T643) test (none refl) s.rows.view.rows last))

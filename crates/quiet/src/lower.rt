@@ -1,44 +1,33 @@
 // 3.4.2.2 to 3.4.2.5, over the rules of the rows per day that fit, in one pass.
-ghost use Rattle.std.specs.Prelude.{◌≡◌, length};
-ghost use Rattle.guideline.specs.declared.rows.TableName.TheVariants.{T643, T649};
-ghost use Rattle.guideline.specs.Rows.{width};
+ghost use Rattle.std.specs.Prelude.{◌≡◌};
 ghost use Rattle.guideline.specs.Quiet.{lower};
-ghost use Rattle.cells.specs.Lents.{rows};
-ghost use Rattle.cells.specs.Views.{Fits};
-ghost use Rattle.keys.specs.Seen.{Sees};
-ghost use Rattle.sieve.specs.Settled.{kept};
+ghost use Rattle.keys.specs.Rows.{lent_rows};
+ghost use Rattle.sieve.specs.Left.{kept};
 ghost use Rattle.units.specs.Comparing.{Amounts, Tested};
 
 use crate::rule::judge;
-use cells::t643;
+use cells::row::TableRow;
 use guideline::context::Ratio;
+use guideline::either;
 use guideline::entries::Prescription;
-use guideline::view::View;
+use guideline::rows::{Row643, Row649};
+use keys::lent::Lent;
 use keys::next::next;
-use keys::seen::Seen;
-use sieve::settled::Settled;
+use sieve::left::Left;
 
-pub fn lower(
-    t643: &[u8],
-    t649: &[u8],
-    v: View,
-    w: Seen,
-    s: Settled,
-    p: Prescription,
-    q: Ratio,
-) -> bool
-    requires { Fits (width T643) v (length t643.now) × Sees T649 t649.now w × Amounts q × Tested p (rows T649 t649.now) }
-    ensures { result ≡ lower (rows T649 t649.now) p q (kept t643.now v s) }
+pub fn lower(left: Left<'_>, t649: Lent<'_, Row649>, p: Prescription, q: Ratio) -> bool
+    requires { Amounts q × Tested p (lent_rows t649) }
+    ensures { result ≡ lower (lent_rows t649.entry) p q (kept left.entry) }
 {
+    let rows = left.rows;
     let mut more = false;
-    let mut i = next(t643, v, t643::KEY, s.category, 0);
-    while i < v.rows {
-        let row = t643::row(t643, v, i);
-        i = next(t643, v, t643::KEY, s.category, i + 1);
-        let Some(allows) = judge(t649, w, s, p, q, row) else {
+    let mut from: usize = 0;
+    while let Some(here) = next(rows.bytes, rows.view, Row643::KEY, rows.key, from) {
+        from = here + 1;
+        let Some(allows) = judge(left.settled, t649, p, q, rows.row(here)) else {
             return false;
         };
-        more = guideline::either(more, allows);
+        more = either(more, allows);
     }
     more
 }

@@ -1,10 +1,8 @@
 // 3.4.2.2 to 3.4.2.5, of the rule of one row. None: it keeps the signal whatever the others say; else, does it allow more than the entered dose?
 ghost use Rattle.std.specs.Prelude.{◌≡◌, not, ◌&&◌, eqb};
-ghost use Rattle.guideline.specs.declared.rows.TableName.TheVariants.{T649};
 ghost use Rattle.guideline.specs.Quiet.{minimum_empty, maximum_given, above_dose, above_day_dose, allows_more};
 ghost use Rattle.guideline.specs.Values.{no_limit};
-ghost use Rattle.cells.specs.Lents.{rows};
-ghost use Rattle.keys.specs.Seen.{Sees};
+ghost use Rattle.keys.specs.Rows.{lent_rows};
 ghost use Rattle.sieve.specs.Settled.{settled643};
 ghost use Rattle.units.specs.Comparing.{Amounts, Products, Tested};
 ghost use Rattle.quiet.specs.Judged.{judged};
@@ -13,10 +11,9 @@ use guideline::both;
 use guideline::context::Ratio;
 use guideline::entries::Prescription;
 use guideline::rows::{Row643, Row649};
-use keys::seen::Seen;
+use keys::lent::Lent;
 use sieve::settled::Settled;
-use tables::t649;
-use tables::t649::Found649;
+use tables::found::Found;
 
 // 3.4.2.3 to 3.4.2.5. The products of the day doses can pass 64 bits.
 fn allows_more(p: Prescription, q: Ratio, row: Row643, m: Row649) -> bool
@@ -42,32 +39,30 @@ fn of_limits(p: Prescription, q: Ratio, row: Row643, m: Row649) -> Option<bool>
     None
 }
 
-fn of_rule(t649: &[u8], w: Seen, p: Prescription, q: Ratio, row: Row643) -> Option<bool>
-    requires { Sees T649 t649.now w × Amounts q × Tested p (rows T649 t649.now) }
-    ensures { result ≡ judged (not (minimum_empty (rows T649 t649.now) row)) (allows_more (rows T649 t649.now) p q row) }
+fn of_rule(t649: Lent<'_, Row649>, p: Prescription, q: Ratio, row: Row643) -> Option<bool>
+    requires { Amounts q × Tested p (lent_rows t649) }
+    ensures { result ≡ judged (not (minimum_empty (lent_rows t649.entry) row)) (allows_more (lent_rows t649.entry) p q row) }
 {
-    let found = t649::ask(t649, w, row.gpddnr);
-    match found {
-        Found649::Nothing => None,
-        Found649::One(m) => of_limits(p, q, row, m),
-        Found649::Many(_) => None,
+    match tables::look_up(t649, row.gpddnr) {
+        Found::Nothing => None,
+        Found::One(m) => of_limits(p, q, row, m),
+        Found::Many(_) => None,
     }
 }
 
 // A row that what is settled does not let pass has no say.
 pub fn judge(
-    t649: &[u8],
-    w: Seen,
     s: Settled,
+    t649: Lent<'_, Row649>,
     p: Prescription,
     q: Ratio,
     row: Row643,
 ) -> Option<bool>
-    requires { Sees T649 t649.now w × Amounts q × Tested p (rows T649 t649.now) }
-    ensures { result ≡ judged (settled643 s row && not (minimum_empty (rows T649 t649.now) row)) (settled643 s row && allows_more (rows T649 t649.now) p q row) }
+    requires { Amounts q × Tested p (lent_rows t649) }
+    ensures { result ≡ judged (settled643 s row && not (minimum_empty (lent_rows t649.entry) row)) (settled643 s row && allows_more (lent_rows t649.entry) p q row) }
 {
     if s.passes(row) {
-        return of_rule(t649, w, p, q, row);
+        return of_rule(t649, p, q, row);
     }
     Some(false)
 }

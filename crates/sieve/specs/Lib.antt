@@ -1,4 +1,4 @@
 pub mod Settled
-pub mod Places
+pub mod Left
 pub mod Matched
 pub mod Needed

@@ -1,13 +1,8 @@
--- What steps 7 to 10 have settled, and the rows that are kept by it.
-use Rattle.std.specs.Prelude.{ℕ, Bool, ◌&&◌, List}
+-- What steps 8 to 10 have settled.
+use Rattle.std.specs.Prelude.{ℕ, Bool, ◌&&◌}
 use Rattle.guideline.specs.Types.{Value}
 use Rattle.guideline.specs.Types.{Blank, Given}
 use Rattle.guideline.specs.declared.rows.Row643.{Row643}
-use Rattle.guideline.specs.declared.rows.TableName.TheVariants.{T643}
-use Rattle.guideline.specs.declared.view.View.{View}
-use Rattle.guideline.specs.Table.{Table, among}
-use Rattle.guideline.specs.Rows.{keyed}
-use Rattle.cells.specs.Lents.{shown}
 use Rattle.filter.specs.declared.Measure.{Measure}
 use Rattle.filter.specs.declared.Measure.TheVariants.{Weight, Surface}
 use Rattle.filter.specs.declared.Filter.{Filter}
@@ -15,23 +10,23 @@ use Rattle.filter.specs.declared.Filter.TheVariants.{Every, Age, FitsMeasure}
 use Rattle.filter.specs.Filters.{filter643}
 use Rattle.sieve.specs.declared.settled.Settled.{Settled}
 
--- the category only; and then one filter more
-abbrev pub of_category : ℕ → Settled
-of_category category = record { category = category; age = Blank; frequency = Every; weight = Blank; surface = Blank }
+-- nothing yet; and then one filter more
+abbrev pub nothing_settled : Settled
+nothing_settled = record { age = Blank; frequency = Every; weight = Blank; surface = Blank }
 
 abbrev pub and_age : Settled → ℕ → Settled
 and_age s months =
-    record { category = s.category; age = Given months; frequency = s.frequency; weight = s.weight; surface = s.surface }
+    record { age = Given months; frequency = s.frequency; weight = s.weight; surface = s.surface }
 
 abbrev pub and_frequency : Settled → Filter → Settled
 and_frequency s f =
-    record { category = s.category; age = s.age; frequency = f; weight = s.weight; surface = s.surface }
+    record { age = s.age; frequency = f; weight = s.weight; surface = s.surface }
 
 abbrev pub and_measure : Settled → Measure → ℕ → Settled
 and_measure s Weight x =
-    record { category = s.category; age = s.age; frequency = s.frequency; weight = Given x; surface = s.surface }
+    record { age = s.age; frequency = s.frequency; weight = Given x; surface = s.surface }
 and_measure s Surface x =
-    record { category = s.category; age = s.age; frequency = s.frequency; weight = s.weight; surface = Given x }
+    record { age = s.age; frequency = s.frequency; weight = s.weight; surface = Given x }
 
 -- what is settled of the measure, and of the other
 abbrev pub own_value : Measure → Settled → Value
@@ -56,11 +51,6 @@ measure_filter m = value_filter (FitsMeasure m)
 -- a row passes all that is settled
 unfoldable pub settled643 : Settled → Row643 → Bool
 settled643 s r =
-    keyed T643 s.category r
-    && (filter643 (age_filter s.age) r
+    filter643 (age_filter s.age) r
     && (filter643 s.frequency r
-    && (filter643 (measure_filter Weight s.weight) r && filter643 (measure_filter Surface s.surface) r)))
-
--- the rows of a view that pass
-unfoldable pub kept : List ℕ → View → Settled → Table Row643
-kept l v s = among (settled643 s) (shown T643 l v)
+    && (filter643 (measure_filter Weight s.weight) r && filter643 (measure_filter Surface s.surface) r))

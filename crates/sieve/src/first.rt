@@ -1,29 +1,25 @@
-// The first row that passes what is settled and a filter. Rows of other categories are passed over.
-ghost use Rattle.std.specs.Prelude.{length};
-ghost use Rattle.guideline.specs.declared.rows.TableName.TheVariants.{T643};
-ghost use Rattle.guideline.specs.Rows.{width};
-ghost use Rattle.cells.specs.Views.{Fits};
+// Is there a row that is left and passes a filter, and where does the first of them stand?
+ghost use Rattle.std.specs.Prelude.{◌≡◌};
+ghost use Rattle.guideline.specs.Table.{some};
 ghost use Rattle.filter.specs.Filters.{filter643};
-ghost use Rattle.sieve.specs.Places.{passing, First};
+ghost use Rattle.keys.specs.Hits.{First};
+ghost use Rattle.sieve.specs.Left.{kept, passing};
 
-use crate::settled::Settled;
-use cells::t643;
+use crate::left::Left;
 use filter::Filter;
-use guideline::view::View;
-use keys::next::next;
+use guideline::rows::Row643;
 
-impl Settled {
-    pub fn first(self, t: &[u8], v: View, filter: Filter) -> Option<usize>
-        requires { Fits (width T643) v (length t.now) }
-        ensures { First (passing t.now v self (filter643 filter)) v.rows result }
+impl<'a> Left<'a> {
+    pub fn first(self, filter: Filter) -> Option<usize>
+        ensures { First (passing self.entry (filter643 filter)) self.entry.rows.view.rows result }
     {
-        let mut i = next(t, v, t643::KEY, self.category, 0);
-        while i < v.rows {
-            if self.passes_and(t643::row(t, v, i), filter) {
-                return Some(i);
-            }
-            i = next(t, v, t643::KEY, self.category, i + 1);
-        }
-        None
+        let settled = self.settled;
+        self.rows.first(|r: Row643| settled.passes_and(r, filter))
+    }
+
+    pub fn any(self, filter: Filter) -> bool
+        ensures { result ≡ some (kept self.entry (filter643 filter)) }
+    {
+        self.first(filter).is_some()
     }
 }

@@ -1,8 +1,8 @@
-// What steps 7 to 10 have settled so far, by value: the category, and what a row has to pass. Each filter is a method by value that hands the
-// narrowed description back. No row is remembered: each filter goes over the rows of the category again.
+// What steps 8 to 10 have settled so far, by value: what a row of the category has to pass. Each filter is a method by value that hands the narrowed
+// description back.
 ghost use Rattle.std.specs.Prelude.{◌≡◌, ◌&&◌};
 ghost use Rattle.filter.specs.Filters.{filter643};
-ghost use Rattle.sieve.specs.Settled.{of_category, and_age, and_frequency, and_measure, settled643};
+ghost use Rattle.sieve.specs.Settled.{nothing_settled, and_age, and_frequency, and_measure, settled643};
 
 use filter::{Filter, Measure};
 use guideline::both;
@@ -11,7 +11,6 @@ use guideline::rows::Row643;
 // An age and the measures are settled by a number alone: it takes half the bytes of a filter on the stack. None: nothing is settled yet.
 #[derive(Clone, Copy)]
 pub struct Settled {
-    pub category: u32,
     pub age: Option<u32>,
     pub frequency: Filter,
     pub weight: Option<u32>,
@@ -19,12 +18,11 @@ pub struct Settled {
 }
 
 impl Settled {
-    // Step 7. The rows of a category.
-    pub fn of_category(category: u32) -> Settled
-        ensures { result ≡ of_category category }
+    // Step 7. All rows of the category.
+    pub fn nothing() -> Settled
+        ensures { result ≡ nothing_settled }
     {
         Settled {
-            category,
             age: None,
             frequency: Filter::Every,
             weight: None,
@@ -78,10 +76,7 @@ impl Settled {
             .surface
             .is_none_or(|x| filter::fits_measure(r, Measure::Surface, x));
         let measured = both(by_weight, by_surface);
-        both(
-            r.gpdcat == self.category,
-            both(by_age, both(by_frequency, measured)),
-        )
+        both(by_age, both(by_frequency, measured))
     }
 
     // Does a row pass what is settled, and a filter?

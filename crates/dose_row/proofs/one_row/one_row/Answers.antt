@@ -1,38 +1,24 @@
--- The tally of the rows that are left tells the one row. Assumes nothing.
-use Prim.Native.Nat.{◌<◌}
-use mathlib.Core.Path.{sym, ◌∙◌, ap}
-use native.Mathlib.Omega.{arith}
-use Rattle.std.specs.Prelude.{Ok}
-use Rattle.guideline.specs.declared.rows.TableName.TheVariants.{T643}
+-- What is asked of the rows of the category is what passes all that is settled. Assumes nothing.
+use borrow.Author.Rules.{rules}
+use mathlib.Core.Path.{sym, ◌∙◌, ap, fun_ext}
+use mathlib.Core.Bool.{and-true}
+use Rattle.guideline.specs.declared.refusals.Ending.TheVariants.{RowsSeveral}
+use Rattle.guideline.specs.declared.rows.Row643.{Row643}
+use Rattle.guideline.specs.Ask.{run}
+use Rattle.guideline.specs.Forms.{one}
 use Rattle.guideline.specs.Results.{answered}
-use Rattle.cells.specs.Lents.{row_at}
-use Rattle.cells.proofs.Tallied.{last_below}
-use Rattle.sieve.specs.Settled.{settled643, kept}
-use Rattle.sieve.proofs.Kept.{kept_told}
-use Rattle.dose_row.proofs.Narrowed.{row_one, row_several}
+use Rattle.guideline.specs.Steps.{one_row}
+use Rattle.guideline.specs.Table.{Hits}
+use Rattle.keys.specs.Rows.{key_rows}
+use Rattle.sieve.specs.Left.{kept_in}
+use Rattle.sieve.specs.Settled.{settled643}
 use Rattle.dose_row.proofs.one_row.one_row.Goals as goal
 
-pub row-requires : goal.row-requires
-row-requires c =
-    let a = c.args in
-    let k = c.tally-tally in
-    let inside : k.result.last < a.left.view.rows = rw k.ensures (last_below (λ i. settled643 a.left.settled (row_at T643 a.t643.now a.left.view i)) a.left.view.rows (rw (← k.ensures) (omega arith))) in
-    (c.requires, inside)
-
-pub returns-then-tally-eq1 : goal.returns-then-tally-eq1
-returns-then-tally-eq1 c =
-    let a = c.args in
-    let k = c.tally-tally in
-    let v = a.left.view in
-    let t = kept a.t643.now v a.left.settled in
-    let told-so = kept_told a.t643.now v a.left.settled k.ensures in
-    λ d. ap Ok c.row.ensures ∙ sym (ap answered (row_one t d k.result.count (row_at T643 a.t643.now v k.result.last) told-so (omega arith)))
-
 pub returns : goal.returns
+unfolding one_row kept_in
 returns c =
-    let a = c.args in
-    let k = c.tally-tally in
-    let v = a.left.view in
-    let t = kept a.t643.now v a.left.settled in
-    let told-so = kept_told a.t643.now v a.left.settled k.ensures in
-    λ d. sym (ap answered (row_several t d k.result.count (row_at T643 a.t643.now v k.result.last) told-so (λ e. omega arith)))
+    let rows = c.args.left.rows in
+    let p = settled643 c.args.left.settled in
+    λ d.
+    c.one.ensures (key_rows rows p) (c.ask.ensures p (λ row b post. search rules)) d
+    ∙ ap (λ (h : Hits Row643). answered (run d (one h RowsSeveral RowsSeveral))) (ap (key_rows rows) (fun_ext (λ r. sym (and-true (p r)))))

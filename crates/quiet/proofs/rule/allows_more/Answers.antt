@@ -1,17 +1,9 @@
--- 64 bits hold the product of two numbers of 32 bits; the day doses are compared by their true products. Assumes nothing.
+-- The day doses are compared by their true products. Assumes nothing.
 use mathlib.Core.Path.{◌∙◌, ap₂}
 use mathlib.Core.Bool.{◌&&◌, and_assoc}
-use native.Mathlib.Omega.{arith}
-use Rattle.exact.proofs.Parts.{fits}
 use Rattle.guideline.specs.Quiet.{maximum_given, above_dose, above_day_dose}
 use Rattle.guideline.specs.Steps.{below}
 use Rattle.quiet.proofs.rule.allows_more.Goals as goal
-
-pub overflow_mul-entered : goal.overflow_mul-entered
-overflow_mul-entered c = fits (omega arith) (omega arith)
-
-pub overflow_mul-most : goal.overflow_mul-most
-overflow_mul-most c = fits (omega arith) (omega arith)
 
 pub returns : goal.returns
 unfolding below maximum_given above_dose above_day_dose

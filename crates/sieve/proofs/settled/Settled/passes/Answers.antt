@@ -2,16 +2,15 @@
 use borrow.Author.Rules.{rules}
 use Rattle.filter.specs.declared.Filter.TheVariants.{Age, FitsMeasure}
 use Rattle.filter.specs.declared.Measure.TheVariants.{Weight, Surface}
-use Rattle.guideline.specs.Rows.{keyed}
 use Rattle.sieve.specs.Settled.{settled643}
 use Rattle.sieve.proofs.Valued.{by_value}
 use Rattle.sieve.proofs.settled.Settled.passes.Goals as goal
 
 pub returns : goal.returns
-unfolding settled643 keyed
+unfolding settled643
 returns c =
     let a = c.args in
     let age = by_value Age a.r a.self.age c.is_none_or-by_age.ensures (λ n k. search rules) in
     let weight = by_value (FitsMeasure Weight) a.r a.self.weight c.is_none_or-by_weight.ensures (λ n k. search rules) in
     let surface = by_value (FitsMeasure Surface) a.r a.self.surface c.is_none_or-by_surface.ensures (λ n k. search rules) in
-    rw (c.both-3.ensures, c.both-2.ensures, c.both.ensures, c.both-measured.ensures, surface, weight, c.passes-by_frequency.ensures, age)
+    rw (c.both-2.ensures, c.both.ensures, c.both-measured.ensures, surface, weight, c.passes-by_frequency.ensures, age)
