@@ -21,6 +21,7 @@ use ranges::sound::tables_sound;
 const MOST_COUNTS: usize = 16;
 
 // 131, then 132; or how many counts there are.
+#[tactic(auto, unfolding(guideline::specs::Counts::counted))]
 fn count(first: u32, last: u32, places: usize) -> Result<usize, RangeRefusal>
     ensures { result ≡ counted first last places }
 {
