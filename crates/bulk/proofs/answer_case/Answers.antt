@@ -1,6 +1,5 @@
 -- A turn writes lines into the buffer, or finds no room in it; behind it the buffer is free. Assumes nothing.
 use Rattle.std.proofs.Common.{arith, ℕ, zero, suc, ◌+◌, ◌*◌, ◌-◌, ◌≤◌, ◌<◌, ◌≡◌}
-use Rattle.std.proofs.lemmas.Bool.{not-false}
 use mathlib.Core.Logic.{⊎_elim}
 use Rattle.decimals.proofs.Cases.{lt_or_ge}
 use Rattle.stream.proofs.Inside.{tables_inside}
@@ -25,4 +24,6 @@ lines-done-requires g c =
     }
 
 pub loop-form-smaller : goal.loop-form-smaller
-loop-form-smaller g c = ?
+loop-form-smaller g c =
+    let m = moves c.lines-done.ensures c.in-Some.is in
+    turn c.loop-form.end m.0 m.1 (λ e. omega (arith, m.2 e, c.requires.2, c.lines-done.auto.out, c.loop-form.invariant.2))
