@@ -27,11 +27,6 @@ pub first_tells : (s : Left) (p : Row643 → Bool) (r : Option ℕ) → First (p
 unfolding kept_in
 first_tells s p r k = sym (any_first s.rows (λ x. settled643 s.settled x && p x) r k)
 
--- nothing is settled yet
-pub nothing_kept : (l : List ℕ) (v : View) (category : ℕ) → kept_in l v category nothing_settled ≡ among (keyed T643 category) (shown T643 l v)
-unfolding kept_in settled643
-nothing_kept l v category = refl
-
 -- the rows that are kept by a filter more are those of the rows before that pass it
 module _ (s : Left) (more : Settled) (q : Filter) (joins : (r : Row643) → settled643 more r ≡ (settled643 s.settled r && filter643 q r)) where
   abbrev l : List ℕ
