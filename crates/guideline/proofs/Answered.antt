@@ -1,5 +1,5 @@
 -- What the answer of a step in code tells of the step's outcome, and how a chain of steps goes on from it: a `?` in the code is one of the two last. Assumes nothing.
-use mathlib.Core.Path.{◌≡◌, refl, sym, ◌∙◌, ap}
+use mathlib.Core.Path.{◌≡◌, refl}
 use Rattle.std.specs.Prelude.{Result, Ok, Err}
 use Rattle.guideline.specs.Types.{Datum, Value, Refusal}
 use Rattle.guideline.specs.Ask.{Step, ◌>>=◌, Outcome, Chosen, Refused, run}

@@ -1,5 +1,4 @@
 -- The seven tables as they are handed over, and the bytes of each.
-use Rattle.std.specs.Prelude.{List, ℕ}
 use Rattle.guideline.specs.declared.lents.LentTables.{LentTables}
 use Rattle.guideline.specs.Types.{T640, T641, T642, T643, T649, T730, T070}
 use Rattle.guideline.specs.Bytes.{Lents}

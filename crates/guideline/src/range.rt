@@ -2,8 +2,6 @@
 ghost use Rattle.std.specs.Prelude.{◌≡◌};
 ghost use Rattle.guideline.specs.Values.{within};
 
-use crate::both;
-
 // The least and the greatest value that a field may have.
 #[derive(Clone, Copy)]
 pub struct Range {
@@ -15,6 +13,6 @@ impl Range {
     pub fn holds(self, x: u32) -> bool
         ensures { result ≡ within self x }
     {
-        both(self.low <= x, x <= self.high)
+        self.low <= x && x <= self.high
     }
 }

@@ -1,7 +1,7 @@
 // How a check ends before step 12.
 ghost use Rattle.std.specs.Prelude.{◌≡◌};
 ghost use Rattle.guideline.specs.declared.refusals.Refusal.TheVariants.{Asks};
-ghost use Rattle.guideline.specs.Ask.{no_refusal, asks_for};
+ghost use Rattle.guideline.specs.Ask.{asks_for};
 ghost use Rattle.guideline.specs.Steps.{nothing};
 ghost use Rattle.guideline.specs.Results.{stopped_at, answered_at};
 
@@ -86,15 +86,6 @@ pub enum Ending {
 pub enum Refusal {
     Asks(Question),
     Ends(Ending),
-}
-
-impl Refusal {
-    // Where a step has chosen there is no refusal, and nobody asks for one. The only filler for such an arm.
-    pub fn none() -> Refusal
-        ensures { result ≡ no_refusal }
-    {
-        Refusal::Ends(Ending::EntryOutOfRange)
-    }
 }
 
 impl From<Question> for Refusal {

@@ -2,8 +2,6 @@
 ghost use Rattle.std.specs.Prelude.{◌≡◌};
 ghost use Rattle.guideline.specs.Values.{per_day, pair, twins};
 
-use crate::{both, either};
-
 // A time unit of a frequency (GPDFEE). Twins stand in pairs.
 #[derive(Clone, Copy)]
 pub struct TimeUnit {
@@ -38,16 +36,15 @@ impl TimeUnit {
     }
 
     // The two units are these two, either way round.
+    #[tactic(auto, unfolding(crate::specs::Values::pair))]
     fn pair(self, other: TimeUnit, one: u32, two: u32) -> bool
         ensures { result ≡ pair one two self.code other.code }
     {
-        either(
-            both(self.code == one, other.code == two),
-            both(self.code == two, other.code == one),
-        )
+        self.code == one && other.code == two || self.code == two && other.code == one
     }
 
     // With months on, weeks and months are twins too.
+    #[tactic(auto, unfolding(crate::specs::Values::twins))]
     pub fn twins(self, other: TimeUnit, months: bool) -> bool
         ensures { result ≡ twins months self.code other.code }
     {
@@ -55,6 +52,6 @@ impl TimeUnit {
         let years = self.pair(other, TimeUnit::PER_HALF_YEAR, TimeUnit::PER_6_MONTHS);
         let month = self.pair(other, TimeUnit::PER_4_WEEKS, TimeUnit::PER_MONTH);
         let two = self.pair(other, TimeUnit::PER_8_WEEKS, TimeUnit::PER_2_MONTHS);
-        either(either(days, years), both(months, either(month, two)))
+        days || years || months && (month || two)
     }
 }

@@ -10,21 +10,12 @@ impl Ranged for Row070 {
 
     #[tactic(auto, unfolding(guideline::specs::Rows::sound_row))]
     fn in_range(self) -> bool {
-        guideline::both(
-            fields::CODES_FROM_1.holds(self.hpkode),
-            guideline::both(
-                fields::CODES_FROM_1.holds(self.prkode),
-                guideline::both(
-                    fields::COUNTS_OF_070.holds(self.hpanpr),
-                    guideline::both(
-                        fields::CODES_FROM_1.holds(self.gpkode),
-                        guideline::both(
-                            fields::COUNTS_OF_070.holds(self.prangp),
-                            fields::COUNTS_OF_070.holds(self.hpangp),
-                        ),
-                    ),
-                ),
-            ),
-        )
+        // One `&` and no branch: the pass over a table is measured.
+        fields::CODES_FROM_1.holds(self.hpkode)
+            & fields::CODES_FROM_1.holds(self.prkode)
+            & fields::COUNTS_OF_070.holds(self.hpanpr)
+            & fields::CODES_FROM_1.holds(self.gpkode)
+            & fields::COUNTS_OF_070.holds(self.prangp)
+            & fields::COUNTS_OF_070.holds(self.hpangp)
     }
 }
