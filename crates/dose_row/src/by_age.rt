@@ -18,7 +18,7 @@ pub fn by_age<'a>(rows: KeyRows<'a, Row643>, months: u32) -> Result<Left<'a>, Re
 {
     let settled = Settled::nothing();
     let rows = narrow(
-        Left { rows, settled },
+        &Left { rows, settled },
         Filter::Age(months),
         Ending::NoRowForAge,
     )?;

@@ -26,7 +26,7 @@ pub fn by_measure<'a>(
     let Some(x) = left.needed(m, question, value)? else {
         return Ok(left);
     };
-    let rows = narrow(left, Filter::FitsMeasure(m, x), none)?;
+    let rows = narrow(&left, Filter::FitsMeasure(m, x), none)?;
     let settled = left.settled.by_measure(m, x);
     Ok(Left { rows, settled })
 }

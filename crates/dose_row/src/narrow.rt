@@ -8,11 +8,11 @@ use keys::rows::KeyRows;
 use sieve::left::Left;
 
 pub fn narrow<'a>(
-    left: Left<'a>,
+    left: &Left<'a>,
     filter: Filter,
     none: Ending,
 ) -> Result<KeyRows<'a, Row643>, Refusal>
-    ensures { Narrows left.entry filter none result }
+    ensures { Narrows left.now filter none result }
 {
     let Some(i) = left.first(filter) else {
         return Err(Refusal::Ends(none));

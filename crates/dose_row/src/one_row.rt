@@ -11,7 +11,7 @@ pub fn one_row(left: Left<'_>) -> Result<Row643, Refusal>
     ensures { Chooses (one_row (kept left.entry)) result }
 {
     let settled = left.settled;
-    tables::ask(left.rows, |r: Row643| settled.passes(r)).one(
+    tables::ask(&left.rows, |r: Row643| settled.passes(r)).one(
         Ending::RowsSeveral,
         Ending::RowsSeveral,
     )

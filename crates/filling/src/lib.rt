@@ -65,8 +65,8 @@ fn by_row(r: Row070, e: Entry) -> Result<Entry, Refusal>
 }
 
 // The filling of an entry. "An HPK with no row fills nothing"; "123 with table 70 for several rows". It asks for no datum.
-pub fn fill(t070: Lent<'_, Row070>, e: Entry) -> Result<Entry, Refusal>
-    ensures { Chooses (filling (lent_rows t070.entry) e) result }
+pub fn fill(t070: &Lent<'_, Row070>, e: Entry) -> Result<Entry, Refusal>
+    ensures { Chooses (filling (lent_rows t070.now) e) result }
 {
     let Some(hpk) = e.known.hpk else {
         return Ok(e);

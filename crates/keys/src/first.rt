@@ -8,9 +8,9 @@ use crate::rows::KeyRows;
 use cells::row::TableRow;
 
 impl<'a, R: TableRow> KeyRows<'a, R> {
-    pub fn first<F: Fn(R) -> bool>(self, test: F) -> Option<usize>
+    pub fn first<F: Fn(R) -> bool>(&self, test: F) -> Option<usize>
         requires { F.IsAlwaysCallable test }
-        ensures { (p : R → Bool) → Tests (F.post test) p → First (hit_of self.entry p) self.entry.view.rows result }
+        ensures { (p : R → Bool) → Tests (F.post test) p → First (hit_of self.now p) self.now.view.rows result }
     {
         let mut from: usize = 0;
         while let Some(here) = next(self.bytes, self.view, R::KEY, self.key, from) {

@@ -5,23 +5,15 @@ use crate::find::find;
 use crate::rows::KeyRows;
 use crate::seen::Seen;
 use cells::row::TableRow;
-use std::alloc::AllocError;
-use std::marker::PhantomData;
 
+#[derive(Drop)]
 pub struct Lent<'a, R: TableRow> {
     pub bytes: &'a [u8],
     pub seen: Seen,
-    pub of: PhantomData<R>,
+    // No value: it says whose rows these are.
+    pub of: [R; 0],
     ghost sees: { SeesBy R.WIDTH R.KEY bytes.now seen },
 }
-
-impl<'a, R: TableRow> Clone for Lent<'a, R> {
-    fn clone(&self) -> Result<Lent<'a, R>, AllocError> {
-        Ok(*self)
-    }
-}
-
-impl<'a, R: TableRow> Copy for Lent<'a, R> {}
 
 impl<'a, R: TableRow> Lent<'a, R> {
     ghost use Rattle.std.specs.Prelude.{◌≡◌};
@@ -37,16 +29,16 @@ impl<'a, R: TableRow> Lent<'a, R> {
         Lent {
             bytes,
             seen,
-            of: PhantomData,
+            of: [],
         }
     }
 
     // The rows of a key. They answer as the table does.
-    pub fn of_key(self, key: u32) -> KeyRows<'a, R>
-        ensures stretch { Stretch self.entry.bytes.now (by_width R.WIDTH self.entry.bytes.now) R.KEY key result.view }
-        ensures bytes { result.bytes.now ≡ self.entry.bytes.now }
+    pub fn of_key(&self, key: u32) -> KeyRows<'a, R>
+        ensures stretch { Stretch self.now.bytes.now (by_width R.WIDTH self.now.bytes.now) R.KEY key result.view }
+        ensures bytes { result.bytes.now ≡ self.now.bytes.now }
         ensures key { result.key ≡ key }
-        ensures rows { key_rows result ≡ among (R.keyed key) (lent_rows self.entry) }
+        ensures rows { key_rows result ≡ among (R.keyed key) (lent_rows self.now) }
     {
         let all = cells::every_row::<R>(self.bytes);
         let view = find(self.bytes, all, R::KEY, key, self.seen.rising);
@@ -54,7 +46,7 @@ impl<'a, R: TableRow> Lent<'a, R> {
             bytes: self.bytes,
             view,
             key,
-            of: PhantomData,
+            of: [],
         }
     }
 }

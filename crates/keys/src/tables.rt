@@ -9,7 +9,7 @@ use crate::seen::AllSeen;
 use guideline::lents::LentTables;
 use guideline::rows::{Row070, Row640, Row641, Row642, Row643, Row649, Row730};
 
-#[derive(Clone, Copy)]
+#[derive(Drop)]
 pub struct SeenTables<'a> {
     pub t640: Lent<'a, Row640>,
     pub t641: Lent<'a, Row641>,

@@ -10,10 +10,10 @@ use cells::Tally;
 use cells::row::TableRow;
 
 impl<'a, R: TableRow> KeyRows<'a, R> {
-    pub fn tally<F: Fn(R) -> bool>(self, test: F) -> Tally
+    pub fn tally<F: Fn(R) -> bool>(&self, test: F) -> Tally
         requires { F.IsAlwaysCallable test }
-        ensures inside { 0 < result.count → result.last < self.entry.view.rows }
-        ensures tally { (p : R → Bool) → Tests (F.post test) p → result ≡ tallied (hit_of self.entry p) self.entry.view.rows }
+        ensures inside { 0 < result.count → result.last < self.now.view.rows }
+        ensures tally { (p : R → Bool) → Tests (F.post test) p → result ≡ tallied (hit_of self.now p) self.now.view.rows }
     {
         let mut count: usize = 0;
         let mut last: usize = 0;

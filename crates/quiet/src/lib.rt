@@ -48,13 +48,13 @@ fn may_suppress(p: Prescription, c: Context) -> bool
 // Is the signal suppressed, where no row that passed the age has the frequency? Or a weight or a surface is asked for.
 pub fn suppresses(
     left: Left<'_>,
-    t649: Lent<'_, Row649>,
+    t649: &Lent<'_, Row649>,
     p: Prescription,
     d: Data,
     c: Context,
 ) -> Result<bool, Question>
-    requires { Amounts c.ratio × Tested p (lent_rows t649) × (left.settled.frequency ≡ Every) × (left.settled.weight ≡ Blank) × (left.settled.surface ≡ Blank) }
-    ensures { run (datum d) (suppresses (lent_rows t649.entry) p c (kept left.entry)) ≡ outcome result }
+    requires { Amounts c.ratio × Tested p (lent_rows t649.now) × (left.settled.frequency ≡ Every) × (left.settled.weight ≡ Blank) × (left.settled.surface ≡ Blank) }
+    ensures { run (datum d) (suppresses (lent_rows t649.now) p c (kept left.entry)) ≡ outcome result }
 {
     if !may_suppress(p, c) {
         return Ok(false);

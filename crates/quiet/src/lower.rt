@@ -15,11 +15,11 @@ use keys::lent::Lent;
 use keys::next::next;
 use sieve::left::Left;
 
-pub fn lower(left: Left<'_>, t649: Lent<'_, Row649>, p: Prescription, q: Ratio) -> bool
-    requires { Amounts q × Tested p (lent_rows t649) }
-    ensures { result ≡ lower (lent_rows t649.entry) p q (kept left.entry) }
+pub fn lower(left: Left<'_>, t649: &Lent<'_, Row649>, p: Prescription, q: Ratio) -> bool
+    requires { Amounts q × Tested p (lent_rows t649.now) }
+    ensures { result ≡ lower (lent_rows t649.now) p q (kept left.entry) }
 {
-    let rows = left.rows;
+    let rows = &left.rows;
     let mut more = false;
     let mut from: usize = 0;
     while let Some(here) = next(rows.bytes, rows.view, Row643::KEY, rows.key, from) {

@@ -39,9 +39,9 @@ fn of_limits(p: Prescription, q: Ratio, row: Row643, m: Row649) -> Option<bool>
     None
 }
 
-fn of_rule(t649: Lent<'_, Row649>, p: Prescription, q: Ratio, row: Row643) -> Option<bool>
-    requires { Amounts q × Tested p (lent_rows t649) }
-    ensures { result ≡ judged (not (minimum_empty (lent_rows t649.entry) row)) (allows_more (lent_rows t649.entry) p q row) }
+fn of_rule(t649: &Lent<'_, Row649>, p: Prescription, q: Ratio, row: Row643) -> Option<bool>
+    requires { Amounts q × Tested p (lent_rows t649.now) }
+    ensures { result ≡ judged (not (minimum_empty (lent_rows t649.now) row)) (allows_more (lent_rows t649.now) p q row) }
 {
     match tables::look_up(t649, row.gpddnr) {
         Found::Nothing => None,
@@ -53,13 +53,13 @@ fn of_rule(t649: Lent<'_, Row649>, p: Prescription, q: Ratio, row: Row643) -> Op
 // A row that what is settled does not let pass has no say.
 pub fn judge(
     s: Settled,
-    t649: Lent<'_, Row649>,
+    t649: &Lent<'_, Row649>,
     p: Prescription,
     q: Ratio,
     row: Row643,
 ) -> Option<bool>
-    requires { Amounts q × Tested p (lent_rows t649) }
-    ensures { result ≡ judged (settled643 s row && not (minimum_empty (lent_rows t649.entry) row)) (settled643 s row && allows_more (lent_rows t649.entry) p q row) }
+    requires { Amounts q × Tested p (lent_rows t649.now) }
+    ensures { result ≡ judged (settled643 s row && not (minimum_empty (lent_rows t649.now) row)) (settled643 s row && allows_more (lent_rows t649.now) p q row) }
 {
     if s.passes(row) {
         return of_rule(t649, p, q, row);

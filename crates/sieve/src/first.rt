@@ -10,15 +10,15 @@ use filter::Filter;
 use guideline::rows::Row643;
 
 impl<'a> Left<'a> {
-    pub fn first(self, filter: Filter) -> Option<usize>
-        ensures { First (passing self.entry (filter643 filter)) self.entry.rows.view.rows result }
+    pub fn first(&self, filter: Filter) -> Option<usize>
+        ensures { First (passing self.now (filter643 filter)) self.now.rows.view.rows result }
     {
         let settled = self.settled;
         self.rows.first(|r: Row643| settled.passes_and(r, filter))
     }
 
-    pub fn any(self, filter: Filter) -> bool
-        ensures { result ≡ some (kept self.entry (filter643 filter)) }
+    pub fn any(&self, filter: Filter) -> bool
+        ensures { result ≡ some (kept self.now (filter643 filter)) }
     {
         self.first(filter).is_some()
     }

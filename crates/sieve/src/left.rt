@@ -4,7 +4,7 @@ use crate::settled::Settled;
 use guideline::rows::Row643;
 use keys::rows::KeyRows;
 
-#[derive(Clone, Copy)]
+#[derive(Drop)]
 pub struct Left<'a> {
     pub rows: KeyRows<'a, Row643>,
     pub settled: Settled,

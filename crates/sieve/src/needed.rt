@@ -13,12 +13,12 @@ use guideline::refusals::Question;
 impl<'a> Left<'a> {
     // None where the measure does not matter.
     pub fn needed(
-        self,
+        &self,
         m: Measure,
         question: Question,
         value: Option<u32>,
     ) -> Result<Option<u32>, Question>
-        ensures { result ≡ needed question (some (kept self.entry (filter643 (Matters m)))) value }
+        ensures { result ≡ needed question (some (kept self.now (filter643 (Matters m)))) value }
     {
         if !self.any(Filter::Matters(m)) {
             return Ok(None);

@@ -6,8 +6,8 @@ use filter::{Filter, Frequency};
 
 impl<'a> Left<'a> {
     // "Same count and unit on one row. If none, same count and the twin unit." The place of a row, and by which of the two filters it is found.
-    pub fn search(self, f: Frequency) -> Option<(usize, Filter)>
-        ensures { Matched self.entry f result }
+    pub fn search(&self, f: Frequency) -> Option<(usize, Filter)>
+        ensures { Matched self.now f result }
     {
         let exact = Filter::Exact(f);
         if let Some(i) = self.first(exact) {

@@ -9,8 +9,8 @@ use guideline::entries::Prescription;
 use guideline::refusals::Signal;
 
 impl<'a> Left<'a> {
-    pub fn signal(self, p: Prescription) -> Signal
-        ensures { result ≡ signal p (kept self.entry) }
+    pub fn signal(&self, p: Prescription) -> Signal
+        ensures { result ≡ signal p (kept self.now) }
     {
         let f = filter::entered(p);
         if self.any(Filter::UnitOrTwin(f)) {

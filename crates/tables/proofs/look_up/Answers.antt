@@ -11,4 +11,4 @@ pub returns : goal.returns
 returns g c =
     c.ask.ensures every (λ row b post. search rules)
     ∙ ap (λ (t : Table _). found (t every)) c.of_key.ensures.rows
-    ∙ ap (λ p. found (lent_rows c.args.t p)) (fun_ext (λ row. and-true (g.R.TableRow.keyed c.args.key row)))
+    ∙ ap (λ p. found (lent_rows c.args.t.now p)) (fun_ext (λ row. and-true (g.R.TableRow.keyed c.args.key row)))

@@ -29,14 +29,14 @@ returns-then-p c d = sym (ap answered (same_unit d _ c.args.p (eq-eqb _ _ c.if-p
 pub returns-in_err-base : goal.returns-in_err-base
 returns-in_err-base c d =
     let p = c.args.p in
-    let t = lent_rows c.args.t730 in
+    let t = lent_rows c.args.t730.now in
     let b = c.one.ensures _ (found_unit t p p.base c.of_unit.ensures c.of_key-rows.ensures.rows) d in
     rw (other_unit d t p (ne_eqb _ _ c.if-p.false), ← ends_here d (base_row (base_rows t p)) (with_base (entered_rows t p)) b c.in_err-base.was) (search rules)
 
 pub returns-in_err-entered : goal.returns-in_err-entered
 returns-in_err-entered c d =
     let p = c.args.p in
-    let t = lent_rows c.args.t730 in
+    let t = lent_rows c.args.t730.now in
     let b = c.one.ensures _ (found_unit t p p.base c.of_unit.ensures c.of_key-rows.ensures.rows) d in
     let n = c.one-2.ensures _ (found_unit t p p.entered c.of_unit-2.ensures c.of_key-rows.ensures.rows) d in
     rw (
@@ -49,7 +49,7 @@ returns-in_err-entered c d =
 pub returns : goal.returns
 returns c d =
     let p = c.args.p in
-    let t = lent_rows c.args.t730 in
+    let t = lent_rows c.args.t730.now in
     let b = c.one.ensures _ (found_unit t p p.base c.of_unit.ensures c.of_key-rows.ensures.rows) d in
     let n = c.one-2.ensures _ (found_unit t p p.entered c.of_unit-2.ensures c.of_key-rows.ensures.rows) d in
     rw (

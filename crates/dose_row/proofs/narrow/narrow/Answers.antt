@@ -7,7 +7,7 @@ use Rattle.dose_row.proofs.narrow.narrow.Goals as goal
 
 pub returns-in_default : goal.returns-in_default
 returns-in_default c =
-    (first_tells c.args.left (filter643 c.args.filter) None c.in_default.ensures, refl)
+    (first_tells c.args.left.now (filter643 c.args.filter) None c.in_default.ensures, refl)
 
 pub returns : goal.returns
 returns c =

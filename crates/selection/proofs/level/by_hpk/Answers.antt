@@ -30,21 +30,21 @@ unfolding choose refuse
 returns-in-Nothing c =
     let some_row = sym (c.any.ensures hpk_level (λ row b post. search rules)) ∙ c.if-not-any.false in
     let given = given_in c.args.d.hpk _ c.ok_or.ensures.value c.in_ok-hpk.was in
-    let hits = found_told (key_rows c.args.rows (of_hpk c.in_ok-hpk.hpk)) (c.ask.ensures (of_hpk c.in_ok-hpk.hpk) (λ row b post. search rules)) c.in-Nothing.is in
-    rw (hpk_given (key_rows c.args.rows) (datum c.args.d) some_row given hits) c.by_prk-in-Nothing.ensures
+    let hits = found_told (key_rows c.args.rows.now (of_hpk c.in_ok-hpk.hpk)) (c.ask.ensures (of_hpk c.in_ok-hpk.hpk) (λ row b post. search rules)) c.in-Nothing.is in
+    rw (hpk_given (key_rows c.args.rows.now) (datum c.args.d) some_row given hits) c.by_prk-in-Nothing.ensures
 
 pub returns-in-One : goal.returns-in-One
 unfolding choose refuse
 returns-in-One c =
     let some_row = sym (c.any.ensures hpk_level (λ row b post. search rules)) ∙ c.if-not-any.false in
     let given = given_in c.args.d.hpk _ c.ok_or.ensures.value c.in_ok-hpk.was in
-    let hits = found_told (key_rows c.args.rows (of_hpk c.in_ok-hpk.hpk)) (c.ask.ensures (of_hpk c.in_ok-hpk.hpk) (λ row b post. search rules)) c.in-One.is in
-    rw (hpk_given (key_rows c.args.rows) (datum c.args.d) some_row given hits)
+    let hits = found_told (key_rows c.args.rows.now (of_hpk c.in_ok-hpk.hpk)) (c.ask.ensures (of_hpk c.in_ok-hpk.hpk) (λ row b post. search rules)) c.in-One.is in
+    rw (hpk_given (key_rows c.args.rows.now) (datum c.args.d) some_row given hits)
 
 pub returns-in-Many : goal.returns-in-Many
 unfolding choose refuse
 returns-in-Many c =
     let some_row = sym (c.any.ensures hpk_level (λ row b post. search rules)) ∙ c.if-not-any.false in
     let given = given_in c.args.d.hpk _ c.ok_or.ensures.value c.in_ok-hpk.was in
-    let hits = found_told (key_rows c.args.rows (of_hpk c.in_ok-hpk.hpk)) (c.ask.ensures (of_hpk c.in_ok-hpk.hpk) (λ row b post. search rules)) c.in-Many.is in
-    rw (hpk_given (key_rows c.args.rows) (datum c.args.d) some_row given hits)
+    let hits = found_told (key_rows c.args.rows.now (of_hpk c.in_ok-hpk.hpk)) (c.ask.ensures (of_hpk c.in_ok-hpk.hpk) (λ row b post. search rules)) c.in-Many.is in
+    rw (hpk_given (key_rows c.args.rows.now) (datum c.args.d) some_row given hits)

@@ -30,21 +30,21 @@ unfolding choose refuse
 returns-in-Nothing c =
     let some_row = sym (c.any.ensures prk_level (λ row b post. search rules)) ∙ c.if-not-any.false in
     let given = given_in c.args.d.prk _ c.ok_or.ensures.value c.in_ok-prk.was in
-    let hits = found_told (key_rows c.args.rows (of_prk c.in_ok-prk.prk)) (c.ask.ensures (of_prk c.in_ok-prk.prk) (λ row b post. search rules)) c.in-Nothing.is in
-    rw (prk_given (key_rows c.args.rows) (datum c.args.d) some_row given hits) (c.by_base-in-Nothing.ensures (datum c.args.d))
+    let hits = found_told (key_rows c.args.rows.now (of_prk c.in_ok-prk.prk)) (c.ask.ensures (of_prk c.in_ok-prk.prk) (λ row b post. search rules)) c.in-Nothing.is in
+    rw (prk_given (key_rows c.args.rows.now) (datum c.args.d) some_row given hits) (c.by_base-in-Nothing.ensures (datum c.args.d))
 
 pub returns-in-One : goal.returns-in-One
 unfolding choose refuse
 returns-in-One c =
     let some_row = sym (c.any.ensures prk_level (λ row b post. search rules)) ∙ c.if-not-any.false in
     let given = given_in c.args.d.prk _ c.ok_or.ensures.value c.in_ok-prk.was in
-    let hits = found_told (key_rows c.args.rows (of_prk c.in_ok-prk.prk)) (c.ask.ensures (of_prk c.in_ok-prk.prk) (λ row b post. search rules)) c.in-One.is in
-    rw (prk_given (key_rows c.args.rows) (datum c.args.d) some_row given hits)
+    let hits = found_told (key_rows c.args.rows.now (of_prk c.in_ok-prk.prk)) (c.ask.ensures (of_prk c.in_ok-prk.prk) (λ row b post. search rules)) c.in-One.is in
+    rw (prk_given (key_rows c.args.rows.now) (datum c.args.d) some_row given hits)
 
 pub returns-in-Many : goal.returns-in-Many
 unfolding choose refuse
 returns-in-Many c =
     let some_row = sym (c.any.ensures prk_level (λ row b post. search rules)) ∙ c.if-not-any.false in
     let given = given_in c.args.d.prk _ c.ok_or.ensures.value c.in_ok-prk.was in
-    let hits = found_told (key_rows c.args.rows (of_prk c.in_ok-prk.prk)) (c.ask.ensures (of_prk c.in_ok-prk.prk) (λ row b post. search rules)) c.in-Many.is in
-    rw (prk_given (key_rows c.args.rows) (datum c.args.d) some_row given hits)
+    let hits = found_told (key_rows c.args.rows.now (of_prk c.in_ok-prk.prk)) (c.ask.ensures (of_prk c.in_ok-prk.prk) (λ row b post. search rules)) c.in-Many.is in
+    rw (prk_given (key_rows c.args.rows.now) (datum c.args.d) some_row given hits)

@@ -23,10 +23,10 @@ unfolding route_kept
 returns-in-Nothing c =
     let none = c.ask.ensures (by_route c.args.s) (λ row b post. search rules) in
     let free = c.ask-in-Nothing.ensures (by_route c.no_route-free.result) (λ row b post. search rules) in
-    rw (found_told (key_rows c.args.rows (by_route c.args.s)) none c.in-Nothing.is) (rw c.no_route-free.ensures at free)
+    rw (found_told (key_rows c.args.rows.now (by_route c.args.s)) none c.in-Nothing.is) (rw c.no_route-free.ensures at free)
 
 pub returns-in_default : goal.returns-in_default
 unfolding route_kept
 returns-in_default c =
     let found = c.ask.ensures (by_route c.args.s) (λ row b post. search rules) in
-    rw (not_none (key_rows c.args.rows (by_route c.args.s)) (λ e. c.in_default.not-Nothing (found ∙ e))) found
+    rw (not_none (key_rows c.args.rows.now (by_route c.args.s)) (λ e. c.in_default.not-Nothing (found ∙ e))) found

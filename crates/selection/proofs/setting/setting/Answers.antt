@@ -13,4 +13,4 @@ unfolding setting
 returns c d =
     let kept = rw (c.keep_reason-for_reason.ensures, c.keep_care-in_care.ensures) at c.keep_route.ensures in
     let rows = ap (λ (u : Table Row642). route_found u (reason_kept u (care_kept u c.args.s))) c.of_key-rows.ensures.rows in
-    rw (← setting_rows (lent_rows c.args.t642) c.args.s c.args.basis) (c.one.ensures _ (kept ∙ rows) d)
+    rw (← setting_rows (lent_rows c.args.t642.now) c.args.s c.args.basis) (c.one.ensures _ (kept ∙ rows) d)

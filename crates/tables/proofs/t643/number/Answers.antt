@@ -5,4 +5,4 @@ use Rattle.tables.proofs.Asked.{tells_number}
 use Rattle.tables.proofs.t643.number.Goals as goal
 
 pub returns : goal.returns
-returns c = tells_number c.args.rows every (c.tally.ensures.tally every (λ row b post. search rules))
+returns c = tells_number c.args.rows.now every (c.tally.ensures.tally every (λ row b post. search rules))

@@ -6,4 +6,4 @@ use Rattle.keys.proofs.rows.KeyRows.rest.Goals as goal
 pub invariant_of-result : goal.invariant_of-result
 invariant_of-result g c =
     let a = c.args in
-    record { fits = rw c.narrow-view.ensures (narrowed_fits a.from a.self.view.rows (omega arith) (omega arith) a.self.fits) }
+    record { fits = rw c.narrow-view.ensures (narrowed_fits a.from a.self.now.view.rows (omega arith) (omega arith) a.self.now.fits) }

@@ -7,4 +7,4 @@ use Rattle.sieve.proofs.left.Left.any.Goals as goal
 pub returns : goal.returns
 returns c =
     c.is_some.ensures
-    ∙ sym (first_tells c.args.self (filter643 c.args.filter) c.first.result c.first.ensures)
+    ∙ sym (first_tells c.args.self.now (filter643 c.args.filter) c.first.result c.first.ensures)
