@@ -5,7 +5,6 @@ use mathlib.Core.Path.{◌≡◌, refl, sym, ap, ◌∙◌}
 use native.Mathlib.Omega.{arith}
 use native.Mathlib.Nat.{add-zero}
 use native.Mathlib.Numerals.{add-one}
-use borrow.Rule.Slice.PartMut.{put_mid, Post-is}
 use lib.ListN.{length, set, get_or, take, drop, length-append}
 use lib.Seq.{sets, sets-eq, set_comm, take-suc, length-take-le}
 use Rattle.decimals.specs.Decimal.{digits}
@@ -39,10 +38,6 @@ digits_none b at end n h = let e : end - at ≡ 0 = omega arith in rw e
 -- a run of stores, as the bytes before, the new ones and the bytes after
 pub stored : (old : List ℕ) (at : ℕ) (new : List ℕ) → at + length new ≤ length old → sets old at new ≡ take at old ++ (new ++ drop (at + length new) old)
 stored old at new h = rw (sets-eq new old at h) (append_assoc (take at old) new (drop (at + length new) old))
-
--- a part of a buffer put back as a text
-pub sets_mid : (old : List ℕ) (at : ℕ) (text : List ℕ) → at + length text ≤ length old → put_mid at (at + length text - at) old text ≡ sets old at text
-sets_mid old at text h = ap (λ (rest : List ℕ). take at old ++ (text ++ rest)) (Post-is at (at + length text) old (omega arith)) ∙ sym (stored old at text h)
 
 -- one character more of a text, from the front
 pub sets_next : (l : List ℕ) (at : ℕ) (t : List ℕ) (i : ℕ) → i < length t → set (sets l at (take i t)) (at + i) (get_or t i 0) ≡ sets l at (take (i + 1) t)
