@@ -68,17 +68,16 @@ fn answer_case<W: Write>(
     ensures ok { IfOk result (λ end. end ≤ length out.new) }
     ensures err { OnErr result (length out.new ≡ length out.old) }
 {
-    let test = case_lines::test_tables(case);
+    let tested = case_lines::test_tables(case);
     let mut next: usize = 0;
     let mut end = at;
     loop {
-        let done = case_lines::lines(form, case, test, next, out, end);
-        next = done.next;
-        end = done.end;
-        if !done.more {
-            return Ok(end);
-        }
-        put_out(writer, &out[..end])?;
+        let done = case_lines::lines(form, case, tested, next, out, end);
+        let Some(left) = done.next else {
+            return Ok(done.end);
+        };
+        put_out(writer, &out[..done.end])?;
+        next = left;
         end = 0;
     }
 }

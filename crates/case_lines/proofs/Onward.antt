@@ -2,9 +2,9 @@
 use Prim.Native.Nat.{ℕ, ◌+◌, ◌-◌, ◌≤◌, ◌<◌}
 use mathlib.Core.Bool.{Bool, true, false, cond}
 use mathlib.Core.List.{List, ◌++◌}
+use Rattle.std.specs.Prelude.{None, Some}
 use mathlib.Core.Path.{◌≡◌, refl, sym, ap, ◌∙◌}
 use native.Mathlib.Omega.{arith}
-use borrow.Author.Tests.{ltb-true}
 use lib.Dec.{leb}
 use lib.ListN.{length}
 use Rattle.decimals.specs.Put.{Put}
@@ -14,7 +14,6 @@ use Rattle.stream.specs.Cases.{tables_of, entry_count}
 use Rattle.stream.specs.declared.cases.Form.{Form}
 use Rattle.case_lines.specs.Lines.{lines_of, lines_from, all_lines, longest_text, Fitting, test_of, Answered}
 use Rattle.case_lines.specs.declared.Progress.{Progress}
-use Rattle.case_lines.specs.declared.Test.TheVariants.{ByCheck, Once}
 use Rattle.case_lines.proofs.Turns.{same_in_turn, join_in_turn, put_next}
 
 module _ (f : Form) (b : List ℕ) where
@@ -44,18 +43,19 @@ pub test_fits : (b : List ℕ) → Fitting (test_of b) (tables_of b)
 unfolding test_of
 test_fits b = go (leb (entry_count b) 1)
   where
-    go : (t : Bool) → Fitting (cond t ByCheck (Once (soundness (tables_of b)))) (tables_of b)
+    go : (t : Bool) → Fitting (cond t None (Some (soundness (tables_of b)))) (tables_of b)
     go true = tt
     go false = refl
 
 -- a call that leaves entries has written the lines of some, or found the place without room for those of any
-pub moves : {f : Form} {b old new : List ℕ} {from at : ℕ} {r : Progress} → Answered f b from old at new r → r.more ≡ true → (r.next < entry_count b) × ((r.next ≡ from) → length new < at + longest_text f)
+pub moves : {f : Form} {b old new : List ℕ} {from at i : ℕ} {r : Progress} → Answered f b from old at new r → r.next ≡ Some i → (from ≤ i) × (i < entry_count b) × ((i ≡ from) → length new < at + longest_text f)
 unfolding in_turn
-moves {f} {b} {old} {new} {from} {at} {r} a m =
-    let more : r.next < entry_count b = ltb-true r.next (entry_count b) (sym a.left ∙ m) in (
-      more,
+moves {f} {b} {old} {new} {from} {at} {i} {r} a m =
+    let l = a.left i m in (
+      rw m at a.onward,
+      l.0,
       λ e.
-          let z : r.next - from ≡ 0 = omega arith in
-          let p : r.end ≡ at + 0 = rw z at a.text.place in
-          omega (arith, a.full more),
+          let z : i - from ≡ 0 = omega arith in
+          let p : r.end ≡ at + 0 = rw (m, z) at a.text.place in
+          omega (arith, l.1),
     )

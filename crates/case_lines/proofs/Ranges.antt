@@ -5,7 +5,7 @@ use mathlib.Core.Path.{◌≡◌, refl, sym, ap, ◌∙◌}
 use native.Mathlib.Omega.{arith}
 use lib.ListN.{length}
 use Rattle.guideline.specs.Types.{Counted}
-use Rattle.guideline.specs.Types.{All, RangeRefused as Refused}
+use Rattle.guideline.specs.Types.{AllCounts, RangeRefused as Refused}
 use Rattle.guideline.specs.declared.entries.Entry.{Entry}
 use Rattle.guideline.specs.Bytes.{Lents, spelled}
 use Rattle.guideline.specs.Check.{answer_length}
@@ -23,7 +23,7 @@ module _ (b : Lents) (e : Entry) (w : Wanted) (old new : List ℕ) (long : lengt
   places_wanted = rw long (omega arith)
 
   pub answers_in_list : (r : Counted) → AnswersEach b e w.first w.last old new r → length new ≡ length old → InList r (length new)
-  answers_in_list (All n) p l =
+  answers_in_list (AllCounts n) p l =
       let f = listed_fits w.first w.last (places_in old) n (sym p.0) in
       (f.1, omega (arith, f.2, places_wanted, long))
   answers_in_list (Refused why) p l = tt
@@ -33,7 +33,7 @@ module _ (b : Lents) (e : Entry) (w : Wanted) (old new : List ℕ) (long : lengt
   answer i = answer_for (spelled b) e (w.first + i)
 
   same_lines : (r : Counted) → AnswersEach b e w.first w.last old new r → counted_lines (λ i. numbers_at i new) r ≡ counted_lines answer r
-  same_lines (All n) p = same_in_turn (λ i. line (numbers_at i new)) (λ i. line (answer i)) n (λ i h. ap line (place_answers b w.first w.last e old new n i p h refl))
+  same_lines (AllCounts n) p = same_in_turn (λ i. line (numbers_at i new)) (λ i. line (answer i)) n (λ i h. ap line (place_answers b w.first w.last e old new n i p h refl))
   same_lines (Refused why) p = refl
 
   pub lines_answered : (r : Counted) → AnswersEach b e w.first w.last old new r → counted_lines (λ i. numbers_at i new) r ≡ range_lines (spelled b) e w

@@ -1,9 +1,11 @@
 -- The lines of a case: for each entry, in their order, that of the check's answer, or those of the range check's.
-use Rattle.std.specs.Prelude.{ℕ, ◌+◌, ◌*◌, ◌-◌, ◌≤◌, ◌<◌, cond, ◌≡◌, List, [], ◌∷◌, leb, ltb, length}
+use Rattle.std.specs.Prelude.{ℕ, ◌+◌, ◌*◌, ◌-◌, ◌≤◌, ◌<◌, cond, ◌≡◌, List, [], ◌∷◌, Option, None, Some, Result, leb, length}
 use Rattle.decimals.specs.Put.{Put}
 use Rattle.guideline.specs.Types.{Counted}
-use Rattle.guideline.specs.Types.{All, RangeRefused as Refused}
+use Rattle.guideline.specs.Types.{AllCounts, RangeRefused as Refused}
 use Rattle.guideline.specs.declared.entries.Entry.{Entry}
+use Rattle.guideline.specs.declared.refusals.Refusal.{Refusal}
+use Rattle.keys.specs.declared.seen.AllSeen.{AllSeen}
 use Rattle.guideline.specs.Bytes.{Lents, spelled}
 use Rattle.guideline.specs.Rows.{Tables}
 use Rattle.guideline.specs.Check.{answer_length, numbers_of, check}
@@ -14,8 +16,6 @@ use Rattle.stream.specs.Lines.{line, longest_line}
 use Rattle.stream.specs.declared.cases.Form.{Form}
 use Rattle.stream.specs.declared.cases.Form.TheVariants.{Single, Range}
 use Rattle.stream.specs.declared.cases.Wanted.{Wanted}
-use Rattle.case_lines.specs.declared.Test.{Test}
-use Rattle.case_lines.specs.declared.Test.TheVariants.{ByCheck, Once}
 use Rattle.case_lines.specs.declared.Progress.{Progress}
 
 -- what an entry gets from the single check
@@ -24,7 +24,7 @@ answer_line t e = line (numbers_of (check t e))
 
 -- and from the range check, f i the numbers of answer i: "it prints `131` or `132`, or one line for each answer"
 abbrev pub counted_lines : (ℕ → List ℕ) → Counted → List ℕ
-counted_lines f (All n) = in_turn (λ i. line (f i)) n
+counted_lines f (AllCounts n) = in_turn (λ i. line (f i)) n
 counted_lines f (Refused why) = line (refusal_number why ∷ [])
 
 unfoldable pub range_lines : Tables → Entry → Wanted → List ℕ
@@ -52,29 +52,33 @@ longest_text Range = longest_range
 
 -- at most 16 answers, all inside a list of so many numbers
 abbrev pub InList : Counted → ℕ → Type 0
-InList (All n) long = (n ≤ most_counts) × (n * answer_length ≤ long)
+InList (AllCounts n) long = (n ≤ most_counts) × (n * answer_length ≤ long)
 InList (Refused why) long = Unit {0}
 
 -- what was tested of the tables
-abbrev pub Fitting : Test → Lents → Type 0
-Fitting ByCheck t = Unit {0}
-Fitting (Once s) t = s ≡ soundness t
+abbrev pub Fitting : Option (Result AllSeen Refusal) → Lents → Type 0
+Fitting None t = Unit {0}
+Fitting (Some s) t = s ≡ soundness t
 
-unfoldable pub test_of : List ℕ → Test
-test_of b = cond (leb (entry_count b) 1) ByCheck (Once (soundness (tables_of b)))
+unfoldable pub test_of : List ℕ → Option (Result AllSeen Refusal)
+test_of b = cond (leb (entry_count b) 1) None (Some (soundness (tables_of b)))
+
+-- the entry to go on with, where one is left; else the one behind the last
+abbrev pub next_of : List ℕ → Option ℕ → ℕ
+next_of b None = entry_count b
+next_of b (Some i) = i
 
 -- a whole case, what was tested of its tables, the entry to go on with, and a place in a buffer
-pub record Ready (f : Form) (b : List ℕ) (test : Test) (from room at : ℕ) : Type 0 where
+pub record Ready (f : Form) (b : List ℕ) (tested : Option (Result AllSeen Refusal)) (from room at : ℕ) : Type 0 where
   pub whole : Whole f b
-  pub tested : Fitting test (tables_of b)
+  pub fitting : Fitting tested (tables_of b)
   pub entry : from ≤ entry_count b
   pub place : at ≤ room
 
--- The lines from those of entry `from` on stand at the place, and no other byte changes. Where entries are left, there is no room for what any gets.
+-- The lines from those of entry `from` on stand at the place, and no other byte changes. Where an entry is left, there is no room for what any gets.
 pub record Answered (f : Form) (b : List ℕ) (from : ℕ) (old : List ℕ) (at : ℕ) (new : List ℕ) (r : Progress) : Type 0 where
-  pub onward : from ≤ r.next
-  pub inside : r.next ≤ entry_count b
-  pub text : Put old at (lines_from f b from (r.next - from)) new r.end
+  pub onward : from ≤ next_of b r.next
+  pub inside : next_of b r.next ≤ entry_count b
+  pub text : Put old at (lines_from f b from (next_of b r.next - from)) new r.end
   pub fits : r.end ≤ length new
-  pub left : r.more ≡ ltb r.next (entry_count b)
-  pub full : r.next < entry_count b → length new < r.end + longest_text f
+  pub left : (i : ℕ) → r.next ≡ Some i → (i < entry_count b) × (length new < r.end + longest_text f)

@@ -3,48 +3,38 @@
 
 ghost use Rattle.std.specs.Prelude.{◌≡◌, ◌+◌, ◌≤◌, ◌<◌, length};
 ghost use Rattle.decimals.specs.Put.{Put};
-ghost use Rattle.guideline.specs.Bytes.{lents};
+ghost use Rattle.guideline.specs.Lent.{lent};
 ghost use Rattle.stream.specs.Cases.{tables_of, tables_end, entry_count, Whole};
 ghost use Rattle.case_lines.specs.Lines.{Fitting, test_of, lines_of, longest_text, Ready, Answered};
 
-use guideline::rows::TableName;
-use ranges::sound::Soundness;
-use stream::cases::{Form, table};
+use guideline::lents::LentTables;
+use guideline::refusals::Refusal;
+use keys::seen::AllSeen;
+use ranges::sound::tables_sound;
+use stream::cases::{Form, entry, entry_count, tables, wanted_of};
 
 pub mod range;
 pub mod single;
 
-// The tables of a case are tested once for all its entries, or by the check where there is one.
-#[derive(Clone, Copy)]
-pub enum Test {
-    ByCheck,
-    Once(Soundness),
-}
+// What was seen of the tables, or their refusal.
+pub type Tested = Result<AllSeen, Refusal>;
 
-// The next entry, the place behind the lines, and whether entries are left.
+// The entry to go on with, where any is left, and the place behind the lines.
 #[derive(Clone, Copy)]
 pub struct Progress {
-    pub next: usize,
+    pub next: Option<usize>,
     pub end: usize,
-    pub more: bool,
 }
 
-pub fn test_tables(case: &[u8]) -> Test
+// The tables of a case are tested once for all its entries, or (None) by the check where there is one.
+pub fn test_tables(case: &[u8]) -> Option<Tested>
     requires { tables_end case.now ≤ length case.now }
     ensures { result ≡ test_of case.now }
 {
-    if stream::cases::entry_count(case) <= 1 {
-        return Test::ByCheck;
+    if entry_count(case) <= 1 {
+        return None;
     }
-    Test::Once(ranges::sound::tables_sound(
-        table(case, TableName::T640),
-        table(case, TableName::T641),
-        table(case, TableName::T642),
-        table(case, TableName::T643),
-        table(case, TableName::T649),
-        table(case, TableName::T730),
-        table(case, TableName::T070),
-    ))
+    Some(tables_sound(tables(case)))
 }
 
 // Room for what any entry gets.
@@ -62,72 +52,18 @@ fn put_entry(
     form: Form,
     case: &[u8],
     i: usize,
-    test: Test,
-    t640: &[u8],
-    t641: &[u8],
-    t642: &[u8],
-    t643: &[u8],
-    t649: &[u8],
-    t730: &[u8],
-    t070: &[u8],
+    t: LentTables<'_>,
+    tested: Option<Tested>,
     out: &mut [u8],
     at: usize,
 ) -> usize
-    requires { Whole form case.now × (i < entry_count case.now) × Fitting test (tables_of case.now) × (lents t640.now t641.now t642.now t643.now t649.now t730.now t070.now ≡ tables_of case.now) × (at + longest_text form ≤ length out.old) }
+    requires { Whole form case.now × (i < entry_count case.now) × Fitting tested (tables_of case.now) × (lent t ≡ tables_of case.now) × (at + longest_text form ≤ length out.old) }
     ensures { Put out.old at (lines_of form case.now i) out.new result × (result ≤ at + longest_text form) }
 {
-    let e = stream::cases::entry(form, case, i);
+    let e = entry(form, case, i);
     match form {
-        Form::Single => single::put(test, t640, t641, t642, t643, t649, t730, t070, e, out, at),
-        Form::Range => {
-            let w = stream::cases::wanted_of(case, i);
-            range::put(
-                test, t640, t641, t642, t643, t649, t730, t070, e, w, out, at,
-            )
-        }
-    }
-}
-
-// Over the tables of the case.
-fn put_lines(
-    f: Form,
-    case: &[u8],
-    t: Test,
-    t640: &[u8],
-    t641: &[u8],
-    t642: &[u8],
-    t643: &[u8],
-    t649: &[u8],
-    t730: &[u8],
-    t070: &[u8],
-    from: usize,
-    out: &mut [u8],
-    at: usize,
-) -> Progress
-    requires { Ready f case.now t from (length out.old) at × (lents t640.now t641.now t642.now t643.now t649.now t730.now t070.now ≡ tables_of case.now) }
-    ensures { Answered f case.now from out.old at out.new result }
-{
-    let n = stream::cases::entry_count(case);
-    let longest = longest(f);
-    let mut i = from;
-    let mut end = at;
-    while i < n {
-        if out.len() - end < longest {
-            return Progress {
-                next: i,
-                end,
-                more: true,
-            };
-        }
-        end = put_entry(
-            f, case, i, t, t640, t641, t642, t643, t649, t730, t070, out, end,
-        );
-        i += 1;
-    }
-    Progress {
-        next: i,
-        end,
-        more: false,
+        Form::Single => single::put(t, tested, e, out, at),
+        Form::Range => range::put(t, tested, e, wanted_of(case, i), out, at),
     }
 }
 
@@ -135,22 +71,22 @@ fn put_lines(
 pub fn lines(
     form: Form,
     case: &[u8],
-    test: Test,
+    tested: Option<Tested>,
     from: usize,
     out: &mut [u8],
     at: usize,
 ) -> Progress
-    requires { Ready form case.now test from (length out.old) at }
+    requires { Ready form case.now tested from (length out.old) at }
     ensures { Answered form case.now from out.old at out.new result }
 {
-    let t640 = table(case, TableName::T640);
-    let t641 = table(case, TableName::T641);
-    let t642 = table(case, TableName::T642);
-    let t643 = table(case, TableName::T643);
-    let t649 = table(case, TableName::T649);
-    let t730 = table(case, TableName::T730);
-    let t070 = table(case, TableName::T070);
-    put_lines(
-        form, case, test, t640, t641, t642, t643, t649, t730, t070, from, out, at,
-    )
+    let t = tables(case);
+    let longest = longest(form);
+    let mut end = at;
+    for i in from..entry_count(case) {
+        if out.len() - end < longest {
+            return Progress { next: Some(i), end };
+        }
+        end = put_entry(form, case, i, t, tested, out, end);
+    }
+    Progress { next: None, end }
 }

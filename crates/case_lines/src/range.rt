@@ -1,19 +1,21 @@
 // An entry for the range check (P2): the number of its refusal, or a line for each answer that stands in the list.
 ghost use Rattle.std.specs.Prelude.{◌≡◌, ◌+◌, ◌*◌, ◌≤◌, length};
 ghost use Rattle.decimals.specs.Put.{Put};
-ghost use Rattle.guideline.specs.Bytes.{lents, spelled};
+ghost use Rattle.guideline.specs.Bytes.{spelled};
 ghost use Rattle.guideline.specs.Check.{answer_length};
 ghost use Rattle.guideline.specs.Counts.{in_turn, numbers_at};
+ghost use Rattle.guideline.specs.Lent.{lent};
 ghost use Rattle.each_count.specs.Each.{AnswersEach};
 ghost use Rattle.stream.specs.Cases.{most_places};
 ghost use Rattle.stream.specs.Lines.{line, longest_line};
 ghost use Rattle.case_lines.specs.Lines.{Fitting, InList, counted_lines, range_lines, longest_range};
 
-use crate::Test;
+use crate::Tested;
 use each_count::{check_each, check_each_after};
 use guideline::answer::Answer;
 use guideline::counted::RangeRefusal;
 use guideline::entries::Entry;
+use guideline::lents::LentTables;
 use stream::cases::Wanted;
 
 // Room for the lines of 16 answers.
@@ -23,29 +25,18 @@ pub const LONGEST: usize = 1_584;
 const LIST: usize = 576;
 
 fn answer(
-    test: Test,
-    t640: &[u8],
-    t641: &[u8],
-    t642: &[u8],
-    t643: &[u8],
-    t649: &[u8],
-    t730: &[u8],
-    t070: &[u8],
+    t: LentTables<'_>,
+    tested: Option<Tested>,
     e: Entry,
-    first: u32,
-    last: u32,
+    w: Wanted,
     list: &mut [u32],
 ) -> Result<usize, RangeRefusal>
-    requires { Fitting test (lents t640.now t641.now t642.now t643.now t649.now t730.now t070.now) }
-    ensures { AnswersEach (lents t640.now t641.now t642.now t643.now t649.now t730.now t070.now) e first last list.old list.new result }
+    requires { Fitting tested (lent t) }
+    ensures { AnswersEach (lent t.entry) e w.first w.last list.old list.new result }
 {
-    match test {
-        Test::ByCheck => check_each(
-            t640, t641, t642, t643, t649, t730, t070, e, first, last, list,
-        ),
-        Test::Once(s) => check_each_after(
-            s, t640, t641, t642, t643, t649, t730, t070, e, first, last, list,
-        ),
+    match tested {
+        None => check_each(t, e, w.first, w.last, list),
+        Some(tested) => check_each_after(t, tested, e, w.first, w.last, list),
     }
 }
 
@@ -55,17 +46,20 @@ fn put_places(list: &[u32], n: usize, out: &mut [u8], at: usize) -> usize
     ensures { Put out.old at (in_turn (λ i. line (numbers_at i list.now)) n) out.new result × (result ≤ at + n * longest_line) }
 {
     let mut end = at;
-    let mut i: usize = 0;
-    while i < n {
+    for i in 0..n {
         let from = i * Answer::LENGTH;
         let to = from + Answer::LENGTH;
         end = stream::lines::put_numbers(&list[from..to], out, end);
-        i += 1;
     }
     end
 }
 
-fn put_counted(counted: Result<usize, RangeRefusal>, list: &[u32], out: &mut [u8], at: usize) -> usize
+fn put_counted(
+    counted: Result<usize, RangeRefusal>,
+    list: &[u32],
+    out: &mut [u8],
+    at: usize,
+) -> usize
     requires { InList counted (length list.now) × (at + longest_range ≤ length out.old) }
     ensures { Put out.old at (counted_lines (λ i. numbers_at i list.now) counted) out.new result × (result ≤ at + longest_range) }
 {
@@ -77,61 +71,33 @@ fn put_counted(counted: Result<usize, RangeRefusal>, list: &[u32], out: &mut [u8
 
 // By a list of as many places as are wanted.
 fn put_by(
-    test: Test,
-    t640: &[u8],
-    t641: &[u8],
-    t642: &[u8],
-    t643: &[u8],
-    t649: &[u8],
-    t730: &[u8],
-    t070: &[u8],
+    t: LentTables<'_>,
+    tested: Option<Tested>,
     e: Entry,
     w: Wanted,
     list: &mut [u32],
     out: &mut [u8],
     at: usize,
 ) -> usize
-    requires { Fitting test (lents t640.now t641.now t642.now t643.now t649.now t730.now t070.now) × (length list.old ≡ w.places * answer_length) × (at + longest_range ≤ length out.old) }
-    ensures { Put out.old at (range_lines (spelled (lents t640.now t641.now t642.now t643.now t649.now t730.now t070.now)) e w) out.new result × (result ≤ at + longest_range) }
+    requires { Fitting tested (lent t) × (length list.old ≡ w.places * answer_length) × (at + longest_range ≤ length out.old) }
+    ensures { Put out.old at (range_lines (spelled (lent t.entry)) e w) out.new result × (result ≤ at + longest_range) }
 {
-    let counted = answer(
-        test, t640, t641, t642, t643, t649, t730, t070, e, w.first, w.last, list,
-    );
+    let counted = answer(t, tested, e, w, list);
     put_counted(counted, list, out, at)
 }
 
 pub fn put(
-    test: Test,
-    t640: &[u8],
-    t641: &[u8],
-    t642: &[u8],
-    t643: &[u8],
-    t649: &[u8],
-    t730: &[u8],
-    t070: &[u8],
+    t: LentTables<'_>,
+    tested: Option<Tested>,
     e: Entry,
     w: Wanted,
     out: &mut [u8],
     at: usize,
 ) -> usize
-    requires { Fitting test (lents t640.now t641.now t642.now t643.now t649.now t730.now t070.now) × (w.places ≤ most_places) × (at + longest_range ≤ length out.old) }
-    ensures { Put out.old at (range_lines (spelled (lents t640.now t641.now t642.now t643.now t649.now t730.now t070.now)) e w) out.new result × (result ≤ at + longest_range) }
+    requires { Fitting tested (lent t) × (w.places ≤ most_places) × (at + longest_range ≤ length out.old) }
+    ensures { Put out.old at (range_lines (spelled (lent t.entry)) e w) out.new result × (result ≤ at + longest_range) }
 {
     let mut list = [0u32; LIST];
     let n = w.places as usize * Answer::LENGTH;
-    put_by(
-        test,
-        t640,
-        t641,
-        t642,
-        t643,
-        t649,
-        t730,
-        t070,
-        e,
-        w,
-        &mut list[..n],
-        out,
-        at,
-    )
+    put_by(t, tested, e, w, &mut list[..n], out, at)
 }

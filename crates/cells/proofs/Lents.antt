@@ -11,7 +11,7 @@ use Rattle.guideline.specs.Table.{some, number}
 use Rattle.guideline.specs.declared.rows.TableName.{TableName}
 use Rattle.guideline.specs.declared.rows.TableName.TheVariants.{T640, T641, T642, T643, T649, T730, T070}
 use Rattle.guideline.specs.declared.view.View.{View}
-use Rattle.guideline.specs.Rows.{width, read_row, key}
+use Rattle.guideline.specs.Rows.{width, read_row}
 use Rattle.guideline.specs.Bytes.{cell}
 use Rattle.cells.specs.declared.Tally.{Tally}
 use Rattle.cells.specs.Tally.{tallied, told, Tallying}
@@ -43,26 +43,7 @@ module _ {A : Type 0} (read : (ℕ → ℕ) → A) (l : List ℕ) (v : View) (p 
   pub rows_number : {t : Tally} → t ≡ tally_by read l v p → number (shown_by read l v p) ≡ t.count
   rows_number {t} e = ap number (rows_told e) ∙ number_told t.count (at t.last)
 
--- a row has at most sixteen numbers
-pub width_most : (n : TableName) → width n ≤ 16
-width_most T640 = omega arith
-width_most T641 = omega arith
-width_most T642 = omega arith
-width_most T643 = omega arith
-width_most T649 = omega arith
-width_most T730 = omega arith
-width_most T070 = omega arith
-
--- the key of a row is the number that it is said to be, and a number of the row
-pub key_read : (n : TableName) (f : ℕ → ℕ) → key n (read_row n f) ≡ f (key_at n)
-key_read T640 f = refl
-key_read T641 f = refl
-key_read T642 f = refl
-key_read T643 f = refl
-key_read T649 f = refl
-key_read T730 f = refl
-key_read T070 f = refl
-
+-- the key of a row is one of its numbers
 pub key_inside : (n : TableName) → key_at n < width n
 key_inside T640 = omega arith
 key_inside T641 = omega arith

@@ -16,6 +16,11 @@ decimals (suc k) n = cond (ltb n 10) ((48 + n) ∷ []) (decimals k (n / 10) ++ (
 unfoldable pub decimal : ℕ → List ℕ
 decimal n = decimals (suc n) n
 
+-- n in k digits, zeros in front; the last k digits where it has more
+unfoldable pub digits : ℕ → ℕ → List ℕ
+digits zero n = []
+digits (suc k) n = digits k (n / 10) ++ ((48 + n % 10) ∷ [])
+
 -- a number and the character behind it
 unfoldable pub field : ℕ → ℕ → List ℕ
 field n behind = decimal n ++ (behind ∷ [])

@@ -1,8 +1,9 @@
-// Numbers in decimal and texts, written at a place of a lent buffer. Each function answers the place behind what it wrote.
+// Numbers in decimal and texts, written at a place of a lent buffer. What has a length of its own answers the place behind what it wrote.
 #![tactic(auto)]
 
 ghost use Rattle.std.specs.Prelude.{◌≡◌, ◌+◌, ◌≤◌, length};
-ghost use Rattle.decimals.specs.Decimal.{decimal, field};
+ghost use Rattle.decimals.specs.Decimal.{decimal, digits, field};
+ghost use Rattle.std.proofs.lemmas.List.Edits.{sets};
 ghost use Rattle.decimals.specs.Put.{Put};
 
 pub const SPACE: u8 = b' ';
@@ -13,30 +14,28 @@ pub const LINE_FEED: u8 = b'\n';
 fn places(n: u64) -> usize
     ensures { result ≡ length (decimal n) }
 {
-    let mut k: usize = 1;
-    let mut rest = n;
-    while 9 < rest {
-        rest = rest / 10;
-        k += 1;
-    }
-    k
+    n.checked_ilog10().map_or(1, |log| log as usize + 1)
 }
 
-// Last digit first.
+// The number's last digits, zeros in front. No other byte changes.
+pub fn put_digits(out: &mut [u8], at: usize, width: usize, n: u64)
+    requires { at + width ≤ length out.old }
+    ensures { out.new ≡ sets out.old at (digits width n) }
+{
+    let mut rest = n;
+    for place in (at..at + width).rev() {
+        out[place] = b'0' + (rest % 10) as u8;
+        rest /= 10;
+    }
+}
+
 pub fn put_decimal(out: &mut [u8], at: usize, n: u64) -> usize
     requires { at + length (decimal n) ≤ length out.old }
     ensures { Put out.old at (decimal n) out.new result }
 {
-    let end = at + places(n);
-    let mut left = end;
-    let mut rest = n;
-    while 9 < rest {
-        left -= 1;
-        out[left] = b'0' + (rest % 10) as u8;
-        rest = rest / 10;
-    }
-    out[at] = b'0' + rest as u8;
-    end
+    let width = places(n);
+    put_digits(out, at, width, n);
+    at + width
 }
 
 // A number, and the character behind it.
@@ -53,10 +52,7 @@ pub fn put_text(out: &mut [u8], at: usize, text: &[u8]) -> usize
     requires { at + length text.now ≤ length out.old }
     ensures { Put out.old at text.now out.new result }
 {
-    let mut i: usize = 0;
-    while i < text.len() {
-        out[at + i] = text[i];
-        i += 1;
-    }
-    at + i
+    let end = at + text.len();
+    out[at..end].copy_from_slice(text);
+    end
 }

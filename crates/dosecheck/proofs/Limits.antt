@@ -11,15 +11,14 @@ use Rattle.guideline.specs.declared.entries.Prescription.{Prescription}
 use Rattle.guideline.specs.Types.{Value}
 use Rattle.guideline.specs.declared.refusals.Ending.TheVariants.{LimitsAbsent, LimitsSeveral}
 use Rattle.guideline.specs.declared.rows.Row649.{Row649}
-use Rattle.guideline.specs.declared.rows.TableName.TheVariants.{T640, T641, T642, T643, T649}
+use Rattle.guideline.specs.declared.rows.TableName.TheVariants.{T649}
 use Rattle.guideline.specs.Ask.{Plan, Done, at, Outcome, Chosen, Refused, run, ◌>>=◌}
 use Rattle.guideline.specs.Table.{Table, Hits, None, One, Many}
-use Rattle.guideline.specs.Rows.{Row, keyed}
+use Rattle.guideline.specs.Rows.{keyed, Tables}
 use Rattle.guideline.specs.Forms.{refuse, one, choose}
-use Rattle.guideline.specs.Steps.{limits_of}
+use Rattle.guideline.specs.Steps.{limits_of, selection}
 use Rattle.guideline.proofs.Gives.{Gives}
 use Rattle.guideline.proofs.Holds.{Holds, holds_done, holds_stop, holds_all, holds_bind, run_holds, Any, Comes}
-use Rattle.selection.specs.Links.{from_product}
 
 limits_hold : (Q : Row649 → Type 0) (t : Table Row649) (g : Reached) (rule : ℕ) → Gives Q t → Holds Any Q (at g (limits_of t rule))
 unfolding limits_of one choose refuse at
@@ -33,18 +32,19 @@ limits_hold Q t g rule h = go (t (keyed T649 rule)) refl
 whatever : {A B : Type 0} {Q : B → Type 0} {f : A → Plan Reached B} (p : Plan Reached A) → ((a : A) → Holds Any Q (f a)) → Holds Any Q (p >>= f)
 whatever {A} p h = holds_bind (holds_all Any (λ (_ : A). Unit {0}) p (λ r g. tt) (λ a. tt)) (λ a _. h a)
 
-module _ (Q : Row649 → Type 0) (t640 : Table (Row T640)) (t641 : Table (Row T641)) (t642 : Table (Row T642)) (t643 : Table (Row T643)) (t649 : Table (Row T649)) (p : Prescription) (q : Ratio) (given : Gives Q t649) where
+module _ (Q : Row649 → Type 0) (t : Tables) (p : Prescription) (q : Ratio) (given : Gives Q (t.rows T649)) where
   abbrev Kept : Selected → Type 0
   Kept s = Q s.limits × (s.context.ratio ≡ q)
 
-  selected_hold : Holds Any Kept (from_product t640 t641 t642 t643 t649 p q)
+  selected_hold : Holds Any Kept (selection t p q)
+  unfolding selection
   selected_hold =
       whatever _ (λ r. whatever _ (λ age. whatever _ (λ l. whatever _ (λ s. whatever _ (λ x.
-      holds_bind (limits_hold Q t649 _ x.gpddnr given) (λ m k. holds_done (k, refl)))))))
+      holds_bind (limits_hold Q (t.rows T649) _ x.gpddnr given) (λ m k. holds_done (k, refl)))))))
 
   chosen_kept : (o : Outcome Reached Selected) {s : Selected} → Comes Any Kept o → o ≡ Chosen s → Kept s
   chosen_kept (Chosen r) {s} k e = let z : r ≡ s = cc in rw (← z) k
   chosen_kept (Refused r g) k e = absurd (let z : ◌≡◌ {A = ℕ} 0 1 = cc in let y : ⊥ = omega arith in y)
 
-  pub selected_kept : (d : Datum → Value) {s : Selected} → run d (from_product t640 t641 t642 t643 t649 p q) ≡ Chosen s → Kept s
-  selected_kept d e = chosen_kept (run d (from_product t640 t641 t642 t643 t649 p q)) (run_holds Any Kept d selected_hold) e
+  pub selected_kept : (d : Datum → Value) {s : Selected} → run d (selection t p q) ≡ Chosen s → Kept s
+  selected_kept d e = chosen_kept (run d (selection t p q)) (run_holds Any Kept d selected_hold) e

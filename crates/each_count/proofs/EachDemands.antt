@@ -8,7 +8,7 @@ use lib.Dec.{T}
 use lib.ListN.{get_or, drop}
 use Rattle.guideline.specs.declared.answer.Answer.{Answer}
 use Rattle.guideline.specs.Types.{Counted}
-use Rattle.guideline.specs.Types.{All, RangeRefused as Refused}
+use Rattle.guideline.specs.Types.{AllCounts, RangeRefused as Refused}
 use Rattle.guideline.specs.declared.counted.RangeRefusal.{RangeRefusal}
 use Rattle.guideline.specs.Types.{Blank}
 use Rattle.guideline.specs.Types.{NotGiven, Position}
@@ -60,20 +60,20 @@ module _ (b : Lents) (first last : ℕ) where
   refusal_leaves e old new why p = p.1 ∙ refused_list (spelled b) e first last old why (sym p.0)
 
   -- what stands behind the last answer is as it was
-  pub rest_leaves : (e : Entry) (old new : List ℕ) (n : ℕ) → AnswersEach b e first last old new (All n) → drop (n * answer_length) new ≡ drop (n * answer_length) old
+  pub rest_leaves : (e : Entry) (old new : List ℕ) (n : ℕ) → AnswersEach b e first last old new (AllCounts n) → drop (n * answer_length) new ≡ drop (n * answer_length) old
   rest_leaves e old new n p =
       ap (drop (n * answer_length)) (p.1 ∙ answers_list (spelled b) e first last old n (sym p.0)) ∙ rest_behind (spelled b) e first n (drop (n * answer_length) old)
 
   -- place i holds what the single check answers for count first + i, months on unless given, by the check's own promise
-  pub place_answers : (e : Entry) (old new : List ℕ) (n i : ℕ) {a : Answer} → AnswersEach b e first last old new (All n) → i < n → Answers b (with_count (first + i) (on_unless_given e)) a → numbers_at i new ≡ numbers_of a
+  pub place_answers : (e : Entry) (old new : List ℕ) (n i : ℕ) {a : Answer} → AnswersEach b e first last old new (AllCounts n) → i < n → Answers b (with_count (first + i) (on_unless_given e)) a → numbers_at i new ≡ numbers_of a
   place_answers e old new n i p h a =
       ap (numbers_at i) (p.1 ∙ answers_list (spelled b) e first last old n (sym p.0)) ∙ place_answered (spelled b) e first n i (drop (n * answer_length) old) h ∙ ap numbers_of (sym a)
 
   -- P3, "each of its answers equals the single check with on" where none is given; a setting that is given stands.
-  pub place_with_on : (e : Entry) (old new : List ℕ) (n i : ℕ) {a : Answer} → AnswersEach b (with_months NotGiven e) first last old new (All n) → i < n → Answers b (with_count (first + i) (with_months (Position on) e)) a → numbers_at i new ≡ numbers_of a
+  pub place_with_on : (e : Entry) (old new : List ℕ) (n i : ℕ) {a : Answer} → AnswersEach b (with_months NotGiven e) first last old new (AllCounts n) → i < n → Answers b (with_count (first + i) (with_months (Position on) e)) a → numbers_at i new ≡ numbers_of a
   place_with_on e old new n i p h a = place_answers (with_months NotGiven e) old new n i p h a
 
-  pub place_as_given : (e : Entry) (position : ℕ) (old new : List ℕ) (n i : ℕ) {a : Answer} → AnswersEach b (with_months (Position position) e) first last old new (All n) → i < n → Answers b (with_count (first + i) (with_months (Position position) e)) a → numbers_at i new ≡ numbers_of a
+  pub place_as_given : (e : Entry) (position : ℕ) (old new : List ℕ) (n i : ℕ) {a : Answer} → AnswersEach b (with_months (Position position) e) first last old new (AllCounts n) → i < n → Answers b (with_count (first + i) (with_months (Position position) e)) a → numbers_at i new ≡ numbers_of a
   place_as_given e position old new n i p h a = place_answers (with_months (Position position) e) old new n i p h a
 
   -- P3: a range with months not given is the range with months on, its result and its list.
@@ -81,14 +81,14 @@ module _ (b : Lents) (first last : ℕ) where
   months_not_given_each e old p q = (p.0 ∙ sym q.0, p.1 ∙ range_not_given_is_on (spelled b) e first last old ∙ sym q.1)
 
   -- Demand 1: each place is one of document 01's list.
-  pub demand_1_each : (e : Entry) (old new : List ℕ) (n i : ℕ) → AnswersEach b e first last old new (All n) → i < n → (a : Answer) × (numbers_at i new ≡ numbers_of a) × T (listed a) × T (right at_least_1 a)
+  pub demand_1_each : (e : Entry) (old new : List ℕ) (n i : ℕ) → AnswersEach b e first last old new (AllCounts n) → i < n → (a : Answer) × (numbers_at i new ≡ numbers_of a) × T (listed a) × T (right at_least_1 a)
   demand_1_each e old new n i p h =
       let d = demand_1 b (with_count (first + i) (on_unless_given e)) refl in
       (check (spelled b) (with_count (first + i) (on_unless_given e)), place_answers e old new n i p h refl, d.0, d.1)
 
   -- Demand 3, first half, for each place: an answer other than 101 to 106 stays the same, all its numbers, whatever blank of the place's entry after filling,
   -- age, sex, PRK, weight or surface, is filled.
-  pub demand_3_same_each : (e : Entry) (q : Datum) (v : ℕ) (old new old' new' : List ℕ) (n n' i : ℕ) → AnswersEach b e first last old new (All n) → AnswersEach b (fill q v e) first last old' new' (All n') → i < n → i < n' → (Asks (answer_at i new) → ⊥) → BlankAfterFilling (spelled b) (of_place e (first + i)) q → permitted q v ≡ true → numbers_at i new' ≡ numbers_at i new
+  pub demand_3_same_each : (e : Entry) (q : Datum) (v : ℕ) (old new old' new' : List ℕ) (n n' i : ℕ) → AnswersEach b e first last old new (AllCounts n) → AnswersEach b (fill q v e) first last old' new' (AllCounts n') → i < n → i < n' → (Asks (answer_at i new) → ⊥) → BlankAfterFilling (spelled b) (of_place e (first + i)) q → permitted q v ≡ true → numbers_at i new' ≡ numbers_at i new
   unfolding fill
   demand_3_same_each e q v old new old' new' n n' i p p' h h' other blank allowed =
       let f = with_count (first + i) (on_unless_given e) in
@@ -98,7 +98,7 @@ module _ (b : Lents) (first last : ℕ) where
 
   -- Demand 3, second half, for each place: 101 to 106 names a datum that is blank in the place's entry after filling. Unless it is the HPK, filling it
   -- leads to an answer later in document 01's order.
-  pub demand_3_later_each : (e : Entry) (old new : List ℕ) (n i : ℕ) → AnswersEach b e first last old new (All n) → i < n → Asks (answer_at i new) → (q : Datum) × (answer_at i new ≡ asking q) × (datum (after_filling (spelled b) (of_place e (first + i))).known q ≡ Blank) × ((q ≡ Hpk → ⊥) → (v : ℕ) → permitted q v ≡ true → place_of (outcome (spelled b) (of_place e (first + i))) < place_of (outcome (spelled b) (of_place (fill q v e) (first + i))))
+  pub demand_3_later_each : (e : Entry) (old new : List ℕ) (n i : ℕ) → AnswersEach b e first last old new (AllCounts n) → i < n → Asks (answer_at i new) → (q : Datum) × (answer_at i new ≡ asking q) × (datum (after_filling (spelled b) (of_place e (first + i))).known q ≡ Blank) × ((q ≡ Hpk → ⊥) → (v : ℕ) → permitted q v ≡ true → place_of (outcome (spelled b) (of_place e (first + i))) < place_of (outcome (spelled b) (of_place (fill q v e) (first + i))))
   unfolding fill
   demand_3_later_each e old new n i p h asks =
       let number = ap (λ (l : List ℕ). get_or l 0 0) (place_answers e old new n i p h refl) in
@@ -106,17 +106,17 @@ module _ (b : Lents) (first last : ℕ) where
       (m.0, number ∙ m.1, m.2.0, m.2.1)
 
   -- P5: with no byte of table 70 each place is what the check without it answers.
-  pub without_table_70_each : (e : Entry) (old new : List ℕ) (n i : ℕ) → AnswersEach b e first last old new (All n) → i < n → b T070 ≡ [] → numbers_at i new ≡ numbers_of (check_without_70 (spelled b) (of_place e (first + i)))
+  pub without_table_70_each : (e : Entry) (old new : List ℕ) (n i : ℕ) → AnswersEach b e first last old new (AllCounts n) → i < n → b T070 ≡ [] → numbers_at i new ≡ numbers_of (check_without_70 (spelled b) (of_place e (first + i)))
   without_table_70_each e old new n i p h empty =
       place_answers e old new n i p h refl ∙ ap numbers_of (without_table_70 b (of_place e (first + i)) refl empty)
 
   -- P7: each place under edition 1 is what the check for its count answers under edition 2, with that one change.
-  pub two_editions_each : (e : Entry) (old new : List ℕ) (n i : ℕ) {a : Answer} → AnswersEach b (with_edition former e) first last old new (All n) → i < n → Answers b (of_place (with_edition current e) (first + i)) a → numbers_at i new ≡ numbers_of (in_former a)
+  pub two_editions_each : (e : Entry) (old new : List ℕ) (n i : ℕ) {a : Answer} → AnswersEach b (with_edition former e) first last old new (AllCounts n) → i < n → Answers b (of_place (with_edition current e) (first + i)) a → numbers_at i new ≡ numbers_of (in_former a)
   two_editions_each e old new n i p h a =
       place_answers (with_edition former e) old new n i p h refl ∙ ap numbers_of (two_editions b (of_place e (first + i)) refl a)
 
 -- Reordering the rows of a lent table changes no place.
-pub reordering_each : (b c : Lents) (first last : ℕ) (e : Entry) (old new old' new' : List ℕ) (n n' i : ℕ) → AnswersEach b e first last old new (All n) → AnswersEach c e first last old' new' (All n') → i < n → i < n' → ReorderedBytes b c → numbers_at i new ≡ numbers_at i new'
+pub reordering_each : (b c : Lents) (first last : ℕ) (e : Entry) (old new old' new' : List ℕ) (n n' i : ℕ) → AnswersEach b e first last old new (AllCounts n) → AnswersEach c e first last old' new' (AllCounts n') → i < n → i < n' → ReorderedBytes b c → numbers_at i new ≡ numbers_at i new'
 reordering_each b c first last e old new old' new' n n' i p p' h h' k =
     place_answers b first last e old new n i p h refl ∙ ap numbers_of (reordering b c (with_count (first + i) (on_unless_given e)) refl refl k) ∙ sym (place_answers c first last e old' new' n' i p' h' refl)
 

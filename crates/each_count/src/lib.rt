@@ -3,152 +3,102 @@
 
 ghost use Rattle.std.specs.Prelude.{◌≡◌, ◌++◌, ◌+◌, ◌*◌, ◌≤◌, length, drop};
 ghost use Rattle.std.proofs.lemmas.List.Edits.{sets};
-ghost use Rattle.guideline.specs.Bytes.{lents, spelled};
+ghost use Rattle.guideline.specs.Bytes.{spelled};
 ghost use Rattle.guideline.specs.Check.{answer_length};
 ghost use Rattle.guideline.specs.Counts.{on_unless_given, counted, answers_from};
+ghost use Rattle.guideline.specs.Lent.{lent};
 ghost use Rattle.ranges.specs.Soundly.{soundness};
-ghost use Rattle.each_count.specs.Each.{how_many, AnswersEach};
+ghost use Rattle.each_count.specs.Each.{AnswersEach};
 
 use guideline::answer::Answer;
 use guideline::counted::RangeRefusal;
-use guideline::entries::Entry;
-use ranges::sound::Soundness;
+use guideline::entries::{Entry, Prescription, given_or};
+use guideline::lents::LentTables;
+use guideline::refusals::Refusal;
+use keys::seen::AllSeen;
+use ranges::sound::tables_sound;
 
 const MOST_COUNTS: usize = 16;
 
 // 131, then 132; or how many counts there are.
+#[tactic(auto, unfolding(guideline::specs::Counts::counted))]
 fn count(first: u32, last: u32, places: usize) -> Result<usize, RangeRefusal>
     ensures { result ≡ counted first last places }
 {
-    if first <= last {
-        let n = (last - first) as usize + 1;
-        if MOST_COUNTS < n {
-            return Err(RangeRefusal::NoRange);
-        }
-        if places < n {
-            return Err(RangeRefusal::NoRoom);
-        }
-        return Ok(n);
+    if last < first {
+        return Err(RangeRefusal::NoRange);
     }
-    Err(RangeRefusal::NoRange)
-}
-
-fn how_many(counted: Result<usize, RangeRefusal>) -> usize
-    ensures { result ≡ how_many counted }
-{
-    match counted {
-        Ok(n) => n,
-        Err(_) => 0,
+    let n = (last - first) as usize + 1;
+    if MOST_COUNTS < n {
+        return Err(RangeRefusal::NoRange);
     }
+    if places < n {
+        return Err(RangeRefusal::NoRoom);
+    }
+    Ok(n)
 }
 
 fn put_numbers(list: &mut [u32], at: usize, numbers: &[u32])
     requires { at + length numbers.now ≤ length list.old }
     ensures { list.new ≡ sets list.old at numbers.now }
 {
-    let mut i: usize = 0;
-    while i < numbers.len() {
-        list[at + i] = numbers[i];
-        i += 1;
-    }
+    list[at..at + numbers.len()].copy_from_slice(numbers);
 }
 
 // P3: the range check "says on where its entry gives no setting".
 fn on_unless_given(e: Entry) -> Entry
     ensures { result ≡ on_unless_given e }
 {
-    let rest = e.rest;
-    let months = rest.months;
-    e.with_months(months.given_or(Prescription::ON))
+    e.with_months(given_or(e.rest.months, Prescription::ON))
 }
 
 // n answers, from that of the first count on.
 fn put_answers(
-    s: Soundness,
-    t640: &[u8],
-    t641: &[u8],
-    t642: &[u8],
-    t643: &[u8],
-    t649: &[u8],
-    t730: &[u8],
-    t070: &[u8],
+    t: LentTables<'_>,
+    tested: Result<AllSeen, Refusal>,
     e: Entry,
     first: u32,
     n: usize,
     list: &mut [u32],
 )
-    requires { (s ≡ soundness (lents t640.now t641.now t642.now t643.now t649.now t730.now t070.now)) × (n * answer_length ≤ length list.old) × (first + n ≤ 4_294_967_296) }
-    ensures { list.new ≡ answers_from (spelled (lents t640.now t641.now t642.now t643.now t649.now t730.now t070.now)) e first n ++ drop (n * answer_length) list.old }
+    requires { (tested ≡ soundness (lent t)) × (n * answer_length ≤ length list.old) × (first + n ≤ 4_294_967_296) }
+    ensures { list.new ≡ answers_from (spelled (lent t.entry)) e first n ++ drop (n * answer_length) list.old }
 {
     let asked = on_unless_given(e);
-    let mut i: usize = 0;
-    while i < n {
+    for i in 0..n {
         let count = first + i as u32;
-        let one = asked.with_count(count);
-        let a = dosecheck::check_after(s, t640, t641, t642, t643, t649, t730, t070, one);
+        let a = dosecheck::check_after(t, tested, asked.with_count(count));
         put_numbers(list, i * Answer::LENGTH, &a.numbers());
-        i += 1;
     }
 }
 
 // The range check, where the tables have been tested already.
 pub fn check_each_after(
-    s: Soundness,
-    t640: &[u8],
-    t641: &[u8],
-    t642: &[u8],
-    t643: &[u8],
-    t649: &[u8],
-    t730: &[u8],
-    t070: &[u8],
+    t: LentTables<'_>,
+    tested: Result<AllSeen, Refusal>,
     e: Entry,
     first: u32,
     last: u32,
     list: &mut [u32],
 ) -> Result<usize, RangeRefusal>
-    requires { s ≡ soundness (lents t640.now t641.now t642.now t643.now t649.now t730.now t070.now) }
-    ensures { AnswersEach (lents t640.now t641.now t642.now t643.now t649.now t730.now t070.now) e first last list.old list.new result }
+    requires { tested ≡ soundness (lent t) }
+    ensures { AnswersEach (lent t.entry) e first last list.old list.new result }
 {
-    let counted = count(first, last, list.len() / Answer::LENGTH);
-    put_answers(
-        s,
-        t640,
-        t641,
-        t642,
-        t643,
-        t649,
-        t730,
-        t070,
-        e,
-        first,
-        how_many(counted),
-        list,
-    );
-    counted
+    let n = count(first, last, list.len() / Answer::LENGTH)?;
+    put_answers(t, tested, e, first, n, list);
+    Ok(n)
 }
 
 // The range check of P2, for all tables, entries, counts and lists that can be handed over. The tables are tested once, and not where the range is refused.
 pub fn check_each(
-    t640: &[u8],
-    t641: &[u8],
-    t642: &[u8],
-    t643: &[u8],
-    t649: &[u8],
-    t730: &[u8],
-    t070: &[u8],
+    t: LentTables<'_>,
     e: Entry,
     first: u32,
     last: u32,
     list: &mut [u32],
 ) -> Result<usize, RangeRefusal>
-    ensures { AnswersEach (lents t640.now t641.now t642.now t643.now t649.now t730.now t070.now) e first last list.old list.new result }
+    ensures { AnswersEach (lent t.entry) e first last list.old list.new result }
 {
-    let counted = count(first, last, list.len() / Answer::LENGTH);
-    let Ok(_) = counted else {
-        return counted;
-    };
-    let s = ranges::sound::tables_sound(t640, t641, t642, t643, t649, t730, t070);
-    check_each_after(
-        s, t640, t641, t642, t643, t649, t730, t070, e, first, last, list,
-    )
+    count(first, last, list.len() / Answer::LENGTH)?;
+    check_each_after(t, tables_sound(t), e, first, last, list)
 }

@@ -15,6 +15,7 @@ use keys::lent::Lent;
 use tables::found::Found;
 
 // A blank PRK and a GPK of 0 do not differ from the row.
+#[tactic(auto, unfolding(guideline::specs::Filling::agrees, guideline::specs::Filling::same_prk, guideline::specs::Filling::same_gpk))]
 fn agrees(r: Row070, e: Entry) -> bool
     ensures { result ≡ agrees r e }
 {
@@ -25,6 +26,7 @@ fn agrees(r: Row070, e: Entry) -> bool
     )
 }
 
+#[tactic(auto, unfolding(guideline::specs::Filling::gpk_filled))]
 fn gpk_filled(r: Row070, gpk: u32) -> u32
     ensures { result ≡ gpk_filled r gpk }
 {
@@ -36,6 +38,7 @@ fn gpk_filled(r: Row070, gpk: u32) -> u32
 }
 
 // What is given stays.
+#[tactic(auto, unfolding(guideline::specs::Filling::filled_by, guideline::specs::Filling::prk_filled))]
 fn filled_by(r: Row070, e: Entry) -> Entry
     ensures { result ≡ filled_by r e }
 {
@@ -51,6 +54,7 @@ fn filled_by(r: Row070, e: Entry) -> Entry
 }
 
 // "133, text 0, for a PRK or GPK that differs from the row"; else the row fills what is open.
+#[tactic(auto, unfolding(crate::specs::Fills::by_row))]
 fn by_row(r: Row070, e: Entry) -> Result<Entry, Refusal>
     ensures { result ≡ by_row r e }
 {

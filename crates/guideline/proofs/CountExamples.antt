@@ -5,7 +5,7 @@ use Prim.Native.Nat.{ℕ, zero, suc}
 use mathlib.Core.Bool.{Bool, true, ◌&&◌}
 use mathlib.Core.List.{List, [], ◌∷◌, ◌++◌}
 use lib.Dec.{T, eqb}
-use Rattle.guideline.specs.Types.{Counted, All, RangeRefused}
+use Rattle.guideline.specs.Types.{Counted, AllCounts, RangeRefused}
 use Rattle.guideline.specs.Bytes.{spelled}
 use Rattle.guideline.specs.Values.{off, on, former}
 use Rattle.guideline.specs.Entries.{blank, read_entry}
@@ -106,7 +106,7 @@ ranges_of_months = months_tried 35 36 ++ months_tried 40 41
 
 -- 0 where there is no refusal
 abbrev number : Counted → ℕ
-number (All n) = 0
+number (AllCounts n) = 0
 number (RangeRefused why) = refusal_number why
 
 abbrev holds : Tables → Range → Bool

@@ -9,7 +9,7 @@ use borrow.Author.Tests.{ltb-true, ltb-false}
 use lib.Dec.{ltb}
 use lib.ListN.{length, take, drop, length-append}
 use lib.Seq.{take_at, drop_at}
-use Rattle.guideline.specs.Types.{Entry, All, RangeRefused, NoRange, NoRoom}
+use Rattle.guideline.specs.Types.{Entry, AllCounts, RangeRefused, NoRange, NoRoom}
 use Rattle.guideline.specs.Rows.{Tables}
 use Rattle.guideline.specs.Check.{answer_length}
 use Rattle.guideline.specs.Counts.{in_turn, answer_for, answers_from, counts_in, most_counts, numbers_at, counted}
@@ -53,11 +53,11 @@ module _ (t : Tables) (e : Entry) (first : ℕ) where
   rest_behind n rest = behind_in_turn each answer_length (λ i. refl) n rest
 
 -- a range that is not refused has from 1 to 16 counts, as many as there are places or fewer
-pub listed_fits : (first last places n : ℕ) → counted first last places ≡ All n → (1 ≤ n) × (n ≤ most_counts) × (n ≤ places) × (first + n ≡ suc last)
+pub listed_fits : (first last places n : ℕ) → counted first last places ≡ AllCounts n → (1 ≤ n) × (n ≤ most_counts) × (n ≤ places) × (first + n ≡ suc last)
 unfolding counted
 listed_fits first last places n = go (ltb last first) (ltb most_counts (counts_in first last)) (ltb places (counts_in first last)) (ltb-false last first) (ltb-false most_counts (counts_in first last)) (ltb-false places (counts_in first last))
   where
-    go : (above over short : Bool) → (above ≡ false → first ≤ last) → (over ≡ false → counts_in first last ≤ most_counts) → (short ≡ false → counts_in first last ≤ places) → cond above (RangeRefused NoRange) (cond over (RangeRefused NoRange) (cond short (RangeRefused NoRoom) (All (counts_in first last)))) ≡ All n → (1 ≤ n) × (n ≤ most_counts) × (n ≤ places) × (first + n ≡ suc last)
+    go : (above over short : Bool) → (above ≡ false → first ≤ last) → (over ≡ false → counts_in first last ≤ most_counts) → (short ≡ false → counts_in first last ≤ places) → cond above (RangeRefused NoRange) (cond over (RangeRefused NoRange) (cond short (RangeRefused NoRoom) (AllCounts (counts_in first last)))) ≡ AllCounts n → (1 ≤ n) × (n ≤ most_counts) × (n ≤ places) × (first + n ≡ suc last)
     go true over short f g k h = absurd (let z : ◌≡◌ {A = ℕ} 0 1 = cc in let y : ⊥ = omega arith in y)
     go false true short f g k h = absurd (let z : ◌≡◌ {A = ℕ} 0 1 = cc in let y : ⊥ = omega arith in y)
     go false false true f g k h = absurd (let z : ◌≡◌ {A = ℕ} 0 1 = cc in let y : ⊥ = omega arith in y)

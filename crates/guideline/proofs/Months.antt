@@ -3,7 +3,7 @@ use Prim.Native.Nat.{ℕ}
 use mathlib.Core.Bool.{Bool, cond}
 use mathlib.Core.List.{List}
 use mathlib.Core.Path.{◌≡◌, refl, ap₂}
-use Rattle.guideline.specs.Types.{NotGiven, Position, Entry, Ending, Ends, Reached, Counted, All, RangeRefused}
+use Rattle.guideline.specs.Types.{NotGiven, Position, Entry, Ending, Ends, Reached, Counted, AllCounts, RangeRefused}
 use Rattle.guideline.specs.Values.{off, on}
 use Rattle.guideline.specs.Rows.{Tables}
 use Rattle.guideline.specs.Ask.{Outcome, Refused}
@@ -48,7 +48,7 @@ module _ (t : Tables) (e : Entry) where
   range_answers_as_given count position = refl
 
   same_listing : (first : ℕ) (r : Counted) (list : List ℕ) → listing t (with_months NotGiven e) first r list ≡ listing t (with_months (Position on) e) first r list
-  same_listing first (All n) list = refl
+  same_listing first (AllCounts n) list = refl
   same_listing first (RangeRefused why) list = refl
 
   pub range_not_given_is_on : (first last : ℕ) (list : List ℕ) → list_after t (with_months NotGiven e) first last list ≡ list_after t (with_months (Position on) e) first last list

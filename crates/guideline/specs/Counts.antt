@@ -1,6 +1,6 @@
 -- P2, "1 to 3 times a day": document 001, 3.4.1, checks 1, 2 and 3 per day each by itself. P3 says what a range takes for months that are not given.
 use Rattle.std.specs.Prelude.{ℕ, zero, suc, ◌+◌, ◌*◌, ◌-◌, ◌/◌, cond, List, [], ◌++◌, ltb, length, take, drop}
-use Rattle.guideline.specs.Types.{Entry, Counted, All, RangeRefused, RangeRefusal, NoRange, NoRoom}
+use Rattle.guideline.specs.Types.{Entry, Counted, AllCounts, RangeRefused, RangeRefusal, NoRange, NoRoom}
 use Rattle.guideline.specs.Values.{on, given_or}
 use Rattle.guideline.specs.Entries.{with_count, with_months}
 use Rattle.guideline.specs.Rows.{Tables}
@@ -45,7 +45,7 @@ unfoldable pub counted : ℕ → ℕ → ℕ → Counted
 counted first last places =
     cond (ltb last first) (RangeRefused NoRange)
     (cond (ltb most_counts (counts_in first last)) (RangeRefused NoRange)
-    (cond (ltb places (counts_in first last)) (RangeRefused NoRoom) (All (counts_in first last))))
+    (cond (ltb places (counts_in first last)) (RangeRefused NoRoom) (AllCounts (counts_in first last))))
 
 abbrev pub refusal_number : RangeRefusal → ℕ
 refusal_number NoRange = 131
@@ -53,7 +53,7 @@ refusal_number NoRoom = 132
 
 -- "In a lent list, places beyond the last unchanged"; a refusal writes nothing
 abbrev pub listing : Tables → Entry → ℕ → Counted → List ℕ → List ℕ
-listing t e first (All n) list = answers_from t e first n ++ drop (n * answer_length) list
+listing t e first (AllCounts n) list = answers_from t e first n ++ drop (n * answer_length) list
 listing t e first (RangeRefused why) list = list
 
 unfoldable pub list_after : Tables → Entry → ℕ → ℕ → List ℕ → List ℕ

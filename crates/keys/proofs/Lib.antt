@@ -1,6 +1,5 @@
 pub mod Without
 pub mod Answers
 pub mod RisingKeys
-pub mod TablesSeen
 pub mod Visits
 pub mod OneResult

@@ -6,7 +6,8 @@ ghost use Rattle.keys.specs.Rising.{Rising, From};
 
 use guideline::view::View;
 
-// The first row whose number k is at least `low`; the number of rows if there is none.
+// The first row whose number k is at least `low`; the number of rows if there is none. std's `partition_point` is of slices, and
+// no slice holds the keys alone.
 fn from(t: &[u8], v: View, k: usize, low: u64) -> usize
     requires { Fits (k + 1) v (length t.now) × Rising (key_of t.now v k) v.rows }
     ensures { From (key_of t.now v k) v.rows low result }

@@ -6,6 +6,7 @@ ghost use Rattle.keys.specs.Keys.{key_of, Next, Without, in_four};
 use guideline::view::View;
 
 // Has one of four rows the key?
+#[tactic(auto, unfolding(crate::specs::Keys::in_four))]
 pub fn in_four(t: &[u8], v: View, k: usize, key: u32, at: usize) -> bool
     requires { Fits (k + 1) v (length t.now) × (at + 4 ≤ v.rows) }
     ensures { result ≡ in_four (key_of t.now v k) key at }
@@ -17,7 +18,7 @@ pub fn in_four(t: &[u8], v: View, k: usize, key: u32, at: usize) -> bool
     guideline::either(guideline::either(a, b), guideline::either(c, d))
 }
 
-// Fours of rows without the key, from a row on.
+// Fours of rows without the key, from a row on. By `while`: it goes on by four, and where it stops is the answer.
 fn fours(t: &[u8], v: View, k: usize, key: u32, from: usize) -> usize
     requires { Fits (k + 1) v (length t.now) × (from ≤ v.rows) }
     ensures { (from ≤ result) × (result ≤ v.rows) × Without (key_of t.now v k) key from result }

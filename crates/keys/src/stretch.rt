@@ -6,7 +6,7 @@ ghost use Rattle.keys.specs.Keys.{key_of, Stretch, Past, Without};
 use crate::next::{in_four, next};
 use guideline::view::View;
 
-// Fours of rows without the key, from the back; none before `from`.
+// Fours of rows without the key, from the back; none before `from`. By `while`, as `fours` of next.rt.
 fn fours_back(t: &[u8], v: View, k: usize, key: u32, from: usize) -> usize
     requires { Fits (k + 1) v (length t.now) × (from ≤ v.rows) }
     ensures { (from ≤ result) × (result ≤ v.rows) × Without (key_of t.now v k) key result v.rows }
@@ -27,13 +27,11 @@ fn end(t: &[u8], v: View, k: usize, key: u32, from: usize) -> usize
     requires { Fits (k + 1) v (length t.now) × (from ≤ v.rows) }
     ensures { Past (key_of t.now v k) v.rows key from result }
 {
-    let mut i = fours_back(t, v, k, key, from);
-    while from < i {
-        let here = i - 1;
-        if cells::cell(t, v, here, k) == key {
-            return i;
+    let last = fours_back(t, v, k, key, from);
+    for i in (from..last).rev() {
+        if cells::cell(t, v, i, k) == key {
+            return i + 1;
         }
-        i = here;
     }
     from
 }

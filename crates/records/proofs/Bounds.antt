@@ -4,9 +4,9 @@ use mathlib.Core.Bool.{true}
 use mathlib.Core.List.{List}
 use mathlib.Core.Path.{◌≡◌, ap}
 use native.Mathlib.Omega.{arith}
-use Rattle.records.specs.Layout.{Reading, said, refused, read_by, scan}
+use Rattle.records.specs.Layout.{Reading, said, refused, read_by, scan, Within}
 use Rattle.records.specs.File.{File, reading, writable}
-use Rattle.records.proofs.Fitting.{Within, within_fits, fits_within}
+use Rattle.records.proofs.Fitting.{within_fits, fits_within}
 use Rattle.records.proofs.LayoutLaws.{scan_refuses}
 
 refused_by : {A B : Type 0} (g : A → B) (x : Reading A) (n : ℕ) → read_by g x ≡ refused n → x ≡ refused n

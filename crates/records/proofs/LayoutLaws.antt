@@ -2,19 +2,19 @@
 use Prim.Native.Nat.{ℕ, ◌+◌, ◌≤◌}
 use mathlib.Core.Bool.{Bool, true, false}
 use mathlib.Core.List.{List, [], ◌∷◌, ◌++◌, append_assoc}
-use mathlib.Core.Path.{◌≡◌, refl, sym}
+use mathlib.Core.Path.{◌≡◌, refl, sym, ◌∙◌}
 use native.Mathlib.Omega.{arith}
 use borrow.Author.Tests.{eq-eqb, eqb-true}
-use lib.ListN.{length, drop, length-append, drop_of_length-le, take-append-drop}
-use lib.Seq.{take_at, drop_at, drop-drop}
+use lib.ListN.{length, get_or, drop, length-append, drop_of_length-le, take-append-drop}
+use lib.Seq.{get_or-append_seam, take_at, drop_at, drop-drop}
 use lib.Dec.{eqb}
 use Rattle.records.specs.Digits.{chars, unless}
 use Rattle.records.specs.Layout.{Part, Value, Values, Reading, said, refused, width, total, every, fixed_part, digit_part, mutation_part, values, fits_part, fits, spelt, spell, numbers, scan}
+use Rattle.records.specs.Parts.{to_number, from_numbers, to_numbers}
 use Rattle.decimals.proofs.Cases.{and_split}
-use Rattle.records.proofs.Bools.{and_both}
 use Rattle.records.proofs.Chars.{length_chars}
 use Rattle.records.proofs.Spelling.{length_spelt, length_spell}
-use Rattle.records.proofs.PartLaws.{spelt_fixed, spelt_digit, spelt_mutation, spelt_value, value_spelt, value_fits}
+use Rattle.records.proofs.PartLaws.{spelt_fixed, spelt_digit, spelt_mutation, spelt_value, value_spelt, value_fits, from_to_number}
 
 -- the characters of the part that stands after `pre`
 here : (p : Part) (v : Value p) (pre rest : List ℕ) (at : ℕ) → length pre ≡ at → chars (pre ++ (spelt p v ++ rest)) at (width p) ≡ spelt p v
@@ -64,19 +64,29 @@ spell_values (p ∷ ps) at s h f d =
     rw (value_spelt p (chars s at (width p)) long g.0 e.0, spell_values ps (at + width p) s (omega arith) g.1 e.1, ← drop-drop (width p) at s)
     (take-append-drop (width p) (drop at s))
 
-fits_values : (ps : List Part) (at : ℕ) (s : List ℕ) → at + total ps ≡ length s → every digit_part ps at s ≡ true → every mutation_part ps at s ≡ true → fits ps (values ps at s) ≡ true
+pub fits_values : (ps : List Part) (at : ℕ) (s : List ℕ) → at + total ps ≡ length s → every digit_part ps at s ≡ true → fits ps (values ps at s) ≡ every mutation_part ps at s
 unfolding every values fits
-fits_values [] at s h d m = refl
-fits_values (p ∷ ps) at s h d m =
+fits_values [] at s h d = refl
+fits_values (p ∷ ps) at s h d =
     let e = and_split (digit_part p (chars s at (width p))) (every digit_part ps (at + width p) s) d in
-    let n = and_split (mutation_part p (chars s at (width p))) (every mutation_part ps (at + width p) s) m in
-    and_both _ _ (value_fits p (chars s at (width p)) (length_chars s at (width p) (omega arith)) e.0 n.0) (fits_values ps (at + width p) s (omega arith) e.1 n.1)
+    rw (value_fits p (chars s at (width p)) (length_chars s at (width p) (omega arith)) e.0, fits_values ps (at + width p) s (omega arith) e.1)
 
-unless_said : {A : Type 0} (b : Bool) (n : ℕ) (next : Reading A) (v : A) → unless b (refused n) next ≡ said v → (b ≡ true) × (next ≡ said v)
+-- the numbers behind others
+from_to_behind : (ps : List Part) (v : Values ps) (pre : List ℕ) (i : ℕ) → length pre ≡ i → from_numbers ps i (pre ++ to_numbers ps v) ≡ v
+from_to_behind [] v pre i h = refl
+from_to_behind (p ∷ ps) v pre i h =
+    let rest = from_to_behind ps v.1 (pre ++ (to_number p v.0 ∷ [])) (i + 1) (rw (length-append pre (to_number p v.0 ∷ []), h)) in
+    let here : get_or (pre ++ (to_number p v.0 ∷ to_numbers ps v.1)) i 0 ≡ to_number p v.0 = rw (← h) (get_or-append_seam pre (to_number p v.0) (to_numbers ps v.1) 0) in
+    rw (here, from_to_number p v.0, ← append_assoc pre (to_number p v.0 ∷ []) (to_numbers ps v.1), rest)
+
+pub from_to_numbers : (ps : List Part) (v : Values ps) → from_numbers ps 0 (to_numbers ps v) ≡ v
+from_to_numbers ps v = from_to_behind ps v [] 0 refl
+
+pub unless_said : {A : Type 0} (b : Bool) (n : ℕ) (next : Reading A) (v : A) → unless b (refused n) next ≡ said v → (b ≡ true) × (next ≡ said v)
 unless_said true n next v h = (refl, h)
 unless_said false n next v h = absurd (let z : ◌≡◌ {A = ℕ} 0 1 = cc in let y : ⊥ = omega arith in y)
 
-said_same : {A : Type 0} (v w : A) → ◌≡◌ {A = Reading A} (said v) (said w) → v ≡ w
+pub said_same : {A : Type 0} (v w : A) → ◌≡◌ {A = Reading A} (said v) (said w) → v ≡ w
 said_same v w h = cc
 
 whole : (n m : ℕ) → eqb n m ≡ true → 0 + m ≡ n
@@ -92,7 +102,7 @@ spell_scan ps s v h =
     let m = unless_said _ 204 _ v d.1 in
     let e : values ps 0 s ≡ v = said_same _ _ m.1 in
     let l = whole (length s) (total ps) a.0 in
-    (rw (← e) (fits_values ps 0 s l d.0 m.0), rw (← e) (spell_values ps 0 s l f.0 d.0))
+    (rw (← e) (fits_values ps 0 s l d.0 ∙ m.0), rw (← e) (spell_values ps 0 s l f.0 d.0))
 
 -- a refusal has one of the four numbers
 pub scan_refuses : (ps : List Part) (s : List ℕ) (n : ℕ) → scan ps s ≡ refused n → (201 ≤ n) × (n ≤ 204)

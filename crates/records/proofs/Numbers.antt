@@ -6,40 +6,39 @@ use mathlib.Core.Path.{◌≡◌, refl}
 use native.Mathlib.Omega.{arith}
 use native.Mathlib.Nat.{pow-suc, pow-le-pow_right, mul-one, mul_assoc, mul_comm}
 use native.Mathlib.Numerals.{add-one}
-use borrow.Author.Tests.{leb-true, le-leb, lt-leb}
-use lib.ListN.{length, get_or}
+use borrow.Author.Tests.{leb-true}
+use lib.ListN.{length, get_or, drop, drop_of_length-le}
+use Rattle.std.specs.Char.{is_ascii_digit}
+use Rattle.std.proofs.lemmas.List.{drop_more}
 use lib.Dec.{leb}
-use Rattle.records.specs.Digits.{chars, digits_only, horner, unless, field_of}
+use Rattle.std.specs.Prelude.{Result, Ok, Err}
+use Rattle.records.specs.Digits.{digits_only, horner, unless}
+use Rattle.records.specs.Numbers.{field_of}
 use Rattle.decimals.proofs.Cases.{and_split}
-use Rattle.records.proofs.Chars.{chars_turn}
-use Rattle.records.specs.declared.parts.Field.{Field}
-use Rattle.records.specs.declared.parts.Field.TheVariants.{Number, NoDigits}
+use Rattle.records.specs.declared.ReadRefusal.{ReadRefusal}
+use Rattle.records.specs.declared.ReadRefusal.TheVariants.{Digit}
 
 -- a field whose digits so far said n
-unfoldable pub field_from : ℕ → List ℕ → Field
-field_from n l = unless (digits_only l) NoDigits (Number (horner n l))
+unfoldable pub field_from : ℕ → List ℕ → Result ℕ ReadRefusal
+field_from n l = unless (digits_only l) (Err Digit) (Ok (horner n l))
 
 pub from_zero : (l : List ℕ) → field_of l ≡ field_from 0 l
 unfolding field_of field_from
 from_zero l = refl
 
-pub from_end : (n : ℕ) → field_from n [] ≡ Number n
+pub from_end : (l : List ℕ) (i n : ℕ) → length l ≤ i → field_from n (drop i l) ≡ Ok n
 unfolding field_from
-from_end n = refl
+from_end l i n h = rw (drop_of_length-le l {i = i} h)
 
 -- a turn of the loop that reads a field, at its i-th character
-module _ (s : List ℕ) (at k i n : ℕ) (h : i < k) (j : at + k ≤ length s) where
-  pub from_digit : 48 ≤ get_or s (at + i) 0 → get_or s (at + i) 0 ≤ 57 → field_from n (chars s (at + i) (k - i)) ≡ field_from (n * 10 + (get_or s (at + i) 0 - 48)) (chars s (at + (i + 1)) (k - (i + 1)))
+module _ (l : List ℕ) (i n : ℕ) (h : i < length l) where
+  pub from_digit : true ≡ is_ascii_digit (get_or l i 0) → field_from n (drop i l) ≡ field_from (n * 10 + (get_or l i 0 - 48)) (drop (i + 1) l)
   unfolding field_from
-  from_digit l u = rw (chars_turn s at k i h j, le-leb 48 _ l, le-leb _ 57 u)
+  from_digit d = rw (drop_more l i 0 h, ← d)
 
-  pub from_below : get_or s (at + i) 0 < 48 → field_from n (chars s (at + i) (k - i)) ≡ NoDigits
+  pub from_other : false ≡ is_ascii_digit (get_or l i 0) → field_from n (drop i l) ≡ Err Digit
   unfolding field_from
-  from_below l = rw (chars_turn s at k i h j, lt-leb 48 _ l)
-
-  pub from_above : 48 ≤ get_or s (at + i) 0 → 57 < get_or s (at + i) 0 → field_from n (chars s (at + i) (k - i)) ≡ NoDigits
-  unfolding field_from
-  from_above l u = rw (chars_turn s at k i h j, le-leb 48 _ l, lt-leb _ 57 u)
+  from_other d = rw (drop_more l i 0 h, ← d)
 
 pub pow_more : (i : ℕ) → 10 ^ (i + 1) ≡ 10 ^ i * 10
 pow_more i = rw add-one (pow-suc 10 i)
@@ -63,16 +62,16 @@ horner_below a k (d ∷ l) h e =
 pub said_below : (l : List ℕ) → digits_only l ≡ true → horner 0 l < 10 ^ length l
 said_below l e = omega (arith, horner_below 0 1 l (omega arith) e)
 
-field_split : (b : Bool) (m n : ℕ) → unless b NoDigits (Number m) ≡ Number n → (b ≡ true) × (m ≡ n)
+field_split : (b : Bool) (m n : ℕ) → unless b (Err Digit) (Ok m) ≡ Ok n → (b ≡ true) × (m ≡ n)
 field_split true m n e = (refl, cc)
 field_split false m n e = absurd (let z : ◌≡◌ {A = ℕ} 0 1 = cc in let y : ⊥ = omega arith in y)
 
-field_lost : (b : Bool) (m : ℕ) → unless b NoDigits (Number m) ≡ NoDigits → b ≡ false
-field_lost true m e = absurd (let z : ◌≡◌ {A = ℕ} 0 1 = cc in let y : ⊥ = omega arith in y)
-field_lost false m e = refl
+field_lost : (b : Bool) (m : ℕ) (e : ReadRefusal) → unless b (Err Digit) (Ok m) ≡ Err e → (b ≡ false) × (e ≡ Digit)
+field_lost true m e h = absurd (let z : ◌≡◌ {A = ℕ} 0 1 = cc in let y : ⊥ = omega arith in y)
+field_lost false m e h = (refl, cc)
 
 -- what a field that was read tells of its characters
-module _ (l : List ℕ) (n : ℕ) (e : field_of l ≡ Number n) where
+module _ (l : List ℕ) (n : ℕ) (e : field_of l ≡ Ok n) where
   pub field_digits : digits_only l ≡ true
   unfolding field_of
   field_digits = (field_split (digits_only l) (horner 0 l) n e).0
@@ -84,6 +83,12 @@ module _ (l : List ℕ) (n : ℕ) (e : field_of l ≡ Number n) where
   pub field_below : (k : ℕ) → length l ≡ k → n < 10 ^ k
   field_below k h = rw (← field_said, ← h) (said_below l field_digits)
 
-pub field_none : (l : List ℕ) → field_of l ≡ NoDigits → digits_only l ≡ false
-unfolding field_of
-field_none l e = field_lost (digits_only l) (horner 0 l) e
+-- and one that was refused
+module _ (l : List ℕ) (e : ReadRefusal) (h : field_of l ≡ Err e) where
+  pub field_none : digits_only l ≡ false
+  unfolding field_of
+  field_none = (field_lost (digits_only l) (horner 0 l) e h).0
+
+  pub refused_digit : e ≡ Digit
+  unfolding field_of
+  refused_digit = (field_lost (digits_only l) (horner 0 l) e h).1

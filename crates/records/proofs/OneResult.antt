@@ -3,11 +3,13 @@ use Prim.Native.Nat.{ℕ}
 use mathlib.Core.Bool.{cond}
 use mathlib.Core.Path.{◌≡◌, refl, sym, ap, ◌∙◌}
 use lib.Dec.{eqb}
-use Rattle.records.specs.Numbers.{read_refusal, write_number}
+use Rattle.records.specs.Layout.{Reading, said, refused}
+use Rattle.records.specs.Numbers.{read_refusal, says, write_number}
 use Rattle.records.specs.declared.ReadRefusal.{ReadRefusal}
 use Rattle.records.specs.declared.ReadRefusal.TheVariants.{Length, Fixed, Digit, Mutation}
-use Rattle.records.specs.declared.Written.{Written}
-use Rattle.records.specs.declared.Written.TheVariants.{Done, TooWide, NoRoom}
+use Rattle.records.specs.declared.WriteRefusal.{WriteRefusal}
+use Rattle.records.specs.declared.WriteRefusal.TheVariants.{TooWide, NoRoom}
+use Rattle.std.specs.Prelude.{Result, Ok, Err}
 
 -- what can be told from its numbers is one
 pub once : {A B : Type 0} (told : A → B) (from : B → A) → ((a : A) → from (told a) ≡ a) → (a b : A) → told a ≡ told b → a ≡ b
@@ -23,14 +25,27 @@ refusal_back Fixed = refl
 refusal_back Digit = refl
 refusal_back Mutation = refl
 
-written : ℕ → Written
-written n = cond (eqb n 0) Done (cond (eqb n 205) TooWide NoRoom)
+read_result : {Record : Type 0} → Reading Record → Result Record ReadRefusal
+read_result (said r) = Ok r
+read_result (refused n) = Err (refusal n)
 
-written_back : (w : Written) → written (write_number w) ≡ w
+read_result_back : {Record : Type 0} (x : Result Record ReadRefusal) → read_result (says x) ≡ x
+unfolding read_result
+read_result_back (Ok r) = refl
+read_result_back (Err e) = ap Err (refusal_back e)
+
+-- whatever the file
+pub read_once : {Record : Type 0} (a b : Result Record ReadRefusal) → says a ≡ says b → a ≡ b
+read_once = once says read_result read_result_back
+
+written : ℕ → Result Unit WriteRefusal
+written n = cond (eqb n 0) (Ok tt) (cond (eqb n 205) (Err TooWide) (Err NoRoom))
+
+written_back : (w : Result Unit WriteRefusal) → written (write_number w) ≡ w
 unfolding written
-written_back Done = refl
-written_back TooWide = refl
-written_back NoRoom = refl
+written_back (Ok d) = refl
+written_back (Err TooWide) = refl
+written_back (Err NoRoom) = refl
 
-pub write_once : (a b : Written) → write_number a ≡ write_number b → a ≡ b
+pub write_once : (a b : Result Unit WriteRefusal) → write_number a ≡ write_number b → a ≡ b
 write_once = once write_number written written_back

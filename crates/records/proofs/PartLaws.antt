@@ -10,6 +10,7 @@ use lib.ListN.{length}
 use lib.Dec.{eqb}
 use Rattle.records.specs.Digits.{same, horner}
 use Rattle.records.specs.Layout.{Part, text, mutation, number, Value, width, fixed_part, digit_part, mutation_part, value, fits_part, spelt}
+use Rattle.records.specs.Parts.{to_number, from_number}
 use Rattle.decimals.proofs.Cases.{and_split}
 use Rattle.records.proofs.Bools.{and_both}
 use Rattle.records.proofs.Numbers.{said_below}
@@ -57,7 +58,14 @@ value_spelt (text t) c h f d = same_eq t c f
 value_spelt mutation c h f d = digits_said 1 c h d
 value_spelt (number k) c h f d = digits_said k c h d
 
-pub value_fits : (p : Part) (c : List ℕ) → length c ≡ width p → digit_part p c ≡ true → mutation_part p c ≡ true → fits_part p (value p c) ≡ true
-value_fits (text t) c h d m = refl
-value_fits mutation c h d m = m
-value_fits (number k) c h d m = lt-ltb (horner 0 c) (10 ^ k) (rw (← h) (said_below c d))
+-- what has digits is never too wide: the mutation digit alone decides
+pub value_fits : (p : Part) (c : List ℕ) → length c ≡ width p → digit_part p c ≡ true → fits_part p (value p c) ≡ mutation_part p c
+value_fits (text t) c h d = refl
+value_fits mutation c h d = refl
+value_fits (number k) c h d = lt-ltb (horner 0 c) (10 ^ k) (rw (← h) (said_below c d))
+
+-- a value and its number
+pub from_to_number : (p : Part) (v : Value p) → from_number p (to_number p v) ≡ v
+from_to_number (text t) v = refl
+from_to_number mutation v = refl
+from_to_number (number k) v = refl

@@ -8,11 +8,12 @@ use native.Mathlib.Nat.{pow-suc}
 use borrow.Author.Tests.{le-leb}
 use lib.ListN.{length}
 use lib.Dec.{leb}
-use Rattle.records.specs.Digits.{digits, digits_only, horner}
+use Rattle.records.specs.Digits.{digits_only, horner}
+use Rattle.decimals.specs.Decimal.{digits}
 use Rattle.decimals.proofs.Cases.{and_split}
 use Rattle.records.proofs.Bools.{and_both}
 use Rattle.records.proofs.Numbers.{digit_split, said_below}
-use Rattle.records.proofs.Stores.{length_digits}
+use Rattle.decimals.proofs.Decimal.{length_digits}
 
 horner_last : (a : ℕ) (l : List ℕ) (d : ℕ) → horner a (l ++ (d ∷ [])) ≡ horner a l * 10 + (d - 48)
 horner_last a [] d = refl

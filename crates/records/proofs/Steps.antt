@@ -1,38 +1,64 @@
--- The tests of a reader and of a writer in turn, whatever the file: what each answers. Assumes nothing.
+-- The tests of a reader and of a writer in turn, whatever the layout: what each answers. Assumes nothing.
 use Prim.Native.Nat.{ℕ, ◌+◌}
-use mathlib.Core.Bool.{true, false}
+use mathlib.Core.Bool.{Bool, true, false}
 use mathlib.Core.List.{List}
-use mathlib.Core.Path.{◌≡◌}
+use mathlib.Core.Path.{◌≡◌, refl, sym}
+use native.Mathlib.Omega.{arith}
 use borrow.Author.Tests.{eq-eqb, ne_eqb, leb-true}
 use lib.ListN.{length}
 use lib.Dec.{leb}
-use Rattle.records.specs.Layout.{refused, read_by, total, every, fixed_part, numbers, scan, fits, answer, leaving}
-use Rattle.records.specs.File.{File, reading, writing, leaves}
-use Rattle.records.specs.Puts.{puts}
-use Rattle.records.proofs.Spelling.{puts_stored}
+use lib.Seq.{sets}
+use Rattle.records.specs.Digits.{unless}
+use Rattle.records.specs.Layout.{Part, Values, said, refused, read_by, total, every, fixed_part, digit_part, mutation_part, values, numbers, scan, fits, spell, answer, leaving}
+use Rattle.records.specs.Parts.{from_numbers, to_numbers}
+use Rattle.records.proofs.LayoutLaws.{fits_values, from_to_numbers, unless_said, said_same}
+use Rattle.decimals.proofs.Puts.{stored}
+use Rattle.records.proofs.Spelling.{length_spell}
 
-module _ {Record : Type 0} (f : File Record) (s : List ℕ) where
-  pub other_length : (length s ≡ total f.layout → ⊥) → refused 201 ≡ reading f s
-  unfolding reading scan
-  other_length n = rw (ne_eqb (length s) (total f.layout) n)
+module _ {R : Type 0} (ps : List Part) (g : Values ps → R) (s : List ℕ) where
+  pub other_length : (length s ≡ total ps → ⊥) → refused 201 ≡ read_by g (scan ps s)
+  unfolding scan
+  other_length n = rw (ne_eqb (length s) (total ps) n)
 
-  pub other_text : length s ≡ total f.layout → every fixed_part f.layout 0 s ≡ false → refused 202 ≡ reading f s
-  unfolding reading scan
-  other_text l e = rw (eq-eqb (length s) (total f.layout) l, e)
+  pub other_text : length s ≡ total ps → every fixed_part ps 0 s ≡ false → refused 202 ≡ read_by g (scan ps s)
+  unfolding scan
+  other_text l f = rw (eq-eqb (length s) (total ps) l, f)
 
-  pub by_numbers : length s ≡ total f.layout → every fixed_part f.layout 0 s ≡ true → read_by f.record_of (numbers f.layout s) ≡ reading f s
-  unfolding reading scan
-  by_numbers l e = rw (eq-eqb (length s) (total f.layout) l, e)
+  module _ (l : length s ≡ total ps) (f : every fixed_part ps 0 s ≡ true) where
+    pub no_digits : every digit_part ps 0 s ≡ false → refused 203 ≡ read_by g (scan ps s)
+    unfolding scan numbers
+    no_digits d = rw (eq-eqb (length s) (total ps) l, f, d)
 
-module _ {Record : Type 0} (f : File Record) (r : Record) (at : ℕ) (old : List ℕ) where
-  pub too_wide : fits f.layout (f.values_of r) ≡ false → (205 ≡ writing f r at (length old)) × (old ≡ leaves f r at old)
-  unfolding writing leaves answer leaving
+    pub high_digit : every digit_part ps 0 s ≡ true → every mutation_part ps 0 s ≡ false → refused 204 ≡ read_by g (scan ps s)
+    unfolding scan numbers
+    high_digit d m = rw (eq-eqb (length s) (total ps) l, f, d, m)
+
+    pub all_read : every digit_part ps 0 s ≡ true → every mutation_part ps 0 s ≡ true → said (g (values ps 0 s)) ≡ read_by g (scan ps s)
+    unfolding scan numbers
+    all_read d m = rw (eq-eqb (length s) (total ps) l, f, d, m)
+
+-- what the answer of one test, among a refusal and what follows, tells of it
+pub lacking : {A : Type 0} (b : Bool) (m n : ℕ) (v : A) → refused n ≡ unless b (refused m) (said v) → (b ≡ false) × (n ≡ m)
+lacking true m n v e = absurd (let z : ◌≡◌ {A = ℕ} 0 1 = cc in let y : ⊥ = omega arith in y)
+lacking false m n v e = (refl, cc)
+
+-- numbers that were read: each part had digits, and what then does not fit is the mutation digit
+pub read : (ps : List Part) (s n : List ℕ) → length s ≡ total ps → said n ≡ unless (every digit_part ps 0 s) (refused 203) (said (to_numbers ps (values ps 0 s))) →
+    (every digit_part ps 0 s ≡ true) × (n ≡ to_numbers ps (values ps 0 s)) × (fits ps (from_numbers ps 0 n) ≡ every mutation_part ps 0 s)
+read ps s n l e =
+    let (d, h) = unless_said _ 203 (said (to_numbers ps (values ps 0 s))) n (sym e) in
+    let m : n ≡ to_numbers ps (values ps 0 s) = sym (said_same _ _ h) in
+    (d, m, rw (m, from_to_numbers ps (values ps 0 s)) (fits_values ps 0 s (omega (arith, l)) d))
+
+module _ (ps : List Part) (v : Values ps) (at : ℕ) (old : List ℕ) where
+  pub too_wide : fits ps v ≡ false → (205 ≡ answer ps v at (length old)) × (old ≡ leaving ps v at old)
+  unfolding answer leaving
   too_wide e = (rw e, rw e)
 
-  pub no_room : fits f.layout (f.values_of r) ≡ true → leb (at + total f.layout) (length old) ≡ false → (206 ≡ writing f r at (length old)) × (old ≡ leaves f r at old)
-  unfolding writing leaves answer leaving
+  pub no_room : fits ps v ≡ true → leb (at + total ps) (length old) ≡ false → (206 ≡ answer ps v at (length old)) × (old ≡ leaving ps v at old)
+  unfolding answer leaving
   no_room e n = (rw (e, n), rw (e, n))
 
-  pub done : fits f.layout (f.values_of r) ≡ true → leb (at + total f.layout) (length old) ≡ true → (0 ≡ writing f r at (length old)) × (puts f.layout (f.values_of r) old at 0 ≡ leaves f r at old)
-  unfolding writing leaves answer leaving
-  done e n = (rw (e, n), rw (e, n) (puts_stored f.layout (f.values_of r) old at (leb-true _ _ n)))
+  pub done : fits ps v ≡ true → leb (at + total ps) (length old) ≡ true → (0 ≡ answer ps v at (length old)) × (sets old at (spell ps v) ≡ leaving ps v at old)
+  unfolding answer leaving
+  done e n = (rw (e, n), rw (e, n) (stored old at (spell ps v) (rw (length_spell ps v) (leb-true _ _ n))))

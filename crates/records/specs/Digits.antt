@@ -1,7 +1,5 @@
 -- Characters at a place, decimal digits with zeros in front, and the number that digits say. A character is a byte: 48 is 0, and 57 is 9. Assumes nothing.
-use Rattle.std.specs.Prelude.{ℕ, zero, suc, ◌+◌, ◌-◌, ◌*◌, ◌/◌, ◌%◌, Bool, true, false, cond, ◌&&◌, List, [], ◌∷◌, ◌++◌, take, drop, leb, eqb}
-use Rattle.records.specs.declared.parts.Field.{Field}
-use Rattle.records.specs.declared.parts.Field.TheVariants.{Number, NoDigits}
+use Rattle.std.specs.Prelude.{ℕ, ◌+◌, ◌-◌, ◌*◌, Bool, true, false, cond, ◌&&◌, List, [], ◌∷◌, take, drop, leb, eqb}
 
 -- k characters from the place at
 abbrev pub chars : List ℕ → ℕ → ℕ → List ℕ
@@ -17,11 +15,6 @@ same [] (b ∷ m) = false
 same (a ∷ l) [] = false
 same (a ∷ l) (b ∷ m) = eqb a b && same l m
 
--- n in k digits, zeros in front; the last k digits where it has more
-unfoldable pub digits : ℕ → ℕ → List ℕ
-digits zero n = []
-digits (suc k) n = digits k (n / 10) ++ ((48 + n % 10) ∷ [])
-
 abbrev pub digits_only : List ℕ → Bool
 digits_only [] = true
 digits_only (d ∷ l) = (leb 48 d && leb d 57) && digits_only l
@@ -30,7 +23,3 @@ digits_only (d ∷ l) = (leb 48 d && leb d 57) && digits_only l
 abbrev pub horner : ℕ → List ℕ → ℕ
 horner a [] = a
 horner a (d ∷ l) = horner (a * 10 + (d - 48)) l
-
--- the number of a field, where it has digits only
-unfoldable pub field_of : List ℕ → Field
-field_of l = unless (digits_only l) NoDigits (Number (horner 0 l))

@@ -1,6 +1,7 @@
 -- A file's record as a list of parts, and what reading and writing such a record mean, whatever the file, in document 01's numbers. Assumes nothing.
-use Rattle.std.specs.Prelude.{ℕ, zero, suc, ◌+◌, ◌^◌, Bool, true, ◌&&◌, List, [], ◌∷◌, ◌++◌, length, take, drop, leb, ltb, eqb}
-use Rattle.records.specs.Digits.{chars, unless, same, digits, digits_only, horner}
+use Rattle.std.specs.Prelude.{ℕ, zero, suc, ◌+◌, ◌^◌, ◌≤◌, ◌<◌, Bool, true, ◌&&◌, List, [], ◌∷◌, ◌++◌, length, take, drop, leb, ltb, eqb}
+use Rattle.records.specs.Digits.{chars, unless, same, digits_only, horner}
+use Rattle.decimals.specs.Decimal.{digits}
 
 -- fixed text; the mutation digit, 0 to 3; a number of so many digits
 pub data Part : Type 0 where
@@ -103,6 +104,13 @@ fits_part (number k) v = ltb v (10 ^ k)
 unfoldable pub fits : (ps : List Part) → Values ps → Bool
 fits [] v = true
 fits (p ∷ ps) v = fits_part p v.0 && fits ps v.1
+
+-- each number has at most the digits of its field, and the mutation digit is at most 3
+abbrev pub Within : (ps : List Part) → Values ps → Type 0
+Within [] v = Unit {0}
+Within (text t ∷ ps) v = Within ps v.1
+Within (mutation ∷ ps) v = (v.0 ≤ 3) × Within ps v.1
+Within (number k ∷ ps) v = (v.0 < 10 ^ k) × Within ps v.1
 
 abbrev pub spelt : (p : Part) → Value p → List ℕ
 spelt (text t) v = t

@@ -3,4 +3,4 @@ pub mod Digits
 pub mod Layout
 pub mod File
 pub mod Numbers
-pub mod Puts
+pub mod Parts

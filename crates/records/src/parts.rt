@@ -1,76 +1,36 @@
 // The parts of a record by place and width, whatever the file.
 ghost use Rattle.std.specs.Prelude.{◌≡◌, ◌+◌, ◌≤◌, length, leb};
-ghost use Rattle.std.proofs.lemmas.List.Edits.{sets};
-ghost use Rattle.records.specs.Digits.{chars, same, field_of, digits};
+ghost use Rattle.records.specs.Digits.{chars, same};
+ghost use Rattle.records.specs.Numbers.{field_of};
 
-#[derive(Clone, Copy)]
-pub enum Field {
-    Number(u64),
-    NoDigits,
-}
-
-fn wide(x: u8) -> u64
-    ensures { result ≡ x }
-{
-    x as u64
-}
+use crate::ReadRefusal;
 
 // Whether the text stands at the place.
 pub fn is_text(s: &[u8], at: usize, text: &[u8]) -> bool
     requires { at + length text.now ≤ length s.now }
     ensures { result ≡ same text.now (chars s.now at (length text.now)) }
 {
-    let mut seen: usize = 0;
-    while seen < text.len() {
-        if s[at + seen] != text[seen] {
-            return false;
-        }
-        seen += 1;
-    }
-    true
+    text == &s[at..at + text.len()]
 }
 
 // The number that the digits at the place say. (Twelve is the widest field of the files.)
-pub fn number_at(s: &[u8], at: usize, width: usize) -> Field
+pub fn number_at(s: &[u8], at: usize, width: usize) -> Result<u64, ReadRefusal>
     requires { (at + width ≤ length s.now) × (width ≤ 12) }
     ensures { result ≡ field_of (chars s.now at width) }
 {
     let mut n: u64 = 0;
-    let mut read: usize = 0;
-    while read < width {
-        let d = s[at + read];
-        if d < b'0' {
-            return Field::NoDigits;
+    for d in &s[at..at + width] {
+        if !d.is_ascii_digit() {
+            return Err(ReadRefusal::Digit);
         }
-        if b'9' < d {
-            return Field::NoDigits;
-        }
-        n = n * 10 + wide(d - b'0');
-        read += 1;
+        n = n * 10 + (*d - b'0') as u64;
     }
-    Field::Number(n)
+    Ok(n)
 }
 
-// Whether a text of that width has room at the place. (The place may be any number, so nothing is added to it.)
+// Whether a text of that width has room at the place, which may be any number.
 pub fn has_room(room: usize, at: usize, width: usize) -> bool
     ensures { result ≡ leb (at + width) room }
 {
-    if room < width {
-        return false;
-    }
-    at <= room - width
-}
-
-// The number's last digits at the place, zeros in front. No other byte changes.
-pub fn put_digits(buf: &mut [u8], at: usize, width: usize, n: u64)
-    requires { at + width ≤ length buf.old }
-    ensures { buf.new ≡ sets buf.old at (digits width n) }
-{
-    let mut left = width;
-    let mut rest = n;
-    while 0 < left {
-        left -= 1;
-        buf[at + left] = b'0' + (rest % 10) as u8;
-        rest = rest / 10;
-    }
+    at.checked_add(width).is_some_and(|end| end <= room)
 }

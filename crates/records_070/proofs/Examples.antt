@@ -5,7 +5,7 @@ use mathlib.Core.List.{List, [], ◌∷◌}
 use mathlib.Core.Path.{◌≡◌, refl}
 use lib.ListN.{replicate}
 use Rattle.records.specs.Ascii.{run}
-use Rattle.records.specs.Digits.{digits}
+use Rattle.decimals.specs.Decimal.{digits}
 use Rattle.records.specs.Layout.{said, every, values, numbers, scan, fits, spell, answer, leaving}
 use Rattle.records.specs.File.{reading, chars_of, writing, leaves}
 use Rattle.records_070.specs.File070.{file_070}

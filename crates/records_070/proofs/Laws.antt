@@ -2,17 +2,18 @@
 use Prim.Native.Nat.{ℕ, ◌^◌, ◌≤◌, ◌<◌}
 use mathlib.Core.Bool.{true}
 use mathlib.Core.List.{List}
-use mathlib.Core.Path.{◌≡◌, refl, ap}
-use Rattle.records.specs.Layout.{Reading, said, refused}
+use mathlib.Core.Path.{◌≡◌}
+use Rattle.records.specs.Layout.{said}
+use Rattle.records.specs.Numbers.{says}
+use Rattle.records.specs.declared.ReadRefusal.{ReadRefusal}
+use Rattle.std.specs.Prelude.{Result}
 use Rattle.records.specs.File.{reading, writable}
 use Rattle.records.proofs.Bounds.{writable_within, within_writable}
 use Rattle.records.proofs.WritesBack.{read_writable}
 use Rattle.records.proofs.EveryFile.{Holds, every_file}
-use Rattle.records.proofs.OneResult.{once, refusal, refusal_back}
-use Rattle.records_070.specs.File070.{file_070, says_070}
+use Rattle.records.proofs.OneResult.{read_once}
+use Rattle.records_070.specs.File070.{file_070}
 use Rattle.records_070.specs.declared.Record070.{Record070}
-use Rattle.records_070.specs.declared.Read070.{Read070}
-use Rattle.records_070.specs.declared.Read070.TheVariants.{Record, Refused}
 
 -- round trip both ways, the two sets, what a write leaves, and the refusals' numbers
 pub holds_070 : Holds file_070 64
@@ -41,13 +42,5 @@ bounds_writable_070 r b = within_writable file_070 r (b.mutation, (b.hpkode, (b.
 pub read_bounds_070 : (s : List ℕ) (r : Record070) → reading file_070 s ≡ said r → Bounds070 r
 read_bounds_070 s r e = writable_bounds_070 r (read_writable file_070 s r e)
 
-abbrev result : Reading Record070 → Read070
-result (said r) = Record r
-result (refused n) = Refused (refusal n)
-
-result_back : (x : Read070) → result (says_070 x) ≡ x
-result_back (Record r) = refl
-result_back (Refused e) = ap Refused (refusal_back e)
-
-pub read_once_070 : (a b : Read070) → says_070 a ≡ says_070 b → a ≡ b
-read_once_070 = once says_070 result result_back
+pub read_once_070 : (a b : Result Record070 ReadRefusal) → says a ≡ says b → a ≡ b
+read_once_070 = read_once

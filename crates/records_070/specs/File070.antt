@@ -1,12 +1,9 @@
--- File 070 (document 004, BST070T; document 02, P5): its layout, its record, and what a result of reading it says. Assumes nothing.
+-- File 070 (document 004, BST070T; document 02, P5): its layout and its record. Assumes nothing.
 use Rattle.std.specs.Prelude.{List, [], ◌∷◌, refl}
 use Rattle.records.specs.Ascii.{ascii, spaces}
-use Rattle.records.specs.Layout.{Part, text, mutation, number, Values, Reading, said, refused}
+use Rattle.records.specs.Layout.{Part, text, mutation, number, Values}
 use Rattle.records.specs.File.{File}
-use Rattle.records.specs.Numbers.{read_refusal}
 use Rattle.records_070.specs.declared.Record070.{Record070}
-use Rattle.records_070.specs.declared.Read070.{Read070}
-use Rattle.records_070.specs.declared.Read070.TheVariants.{Record, Refused}
 
 -- 64 characters. The numbers are HPKODE at 6 to 13, PRKODE 14 to 21, HPANPR 22 to 27, GPKODE 28 to 35, PRANGP 36 to 41 and HPANGP 42 to 47; spaces from 48 on.
 abbrev pub layout_070 : List Part
@@ -30,8 +27,3 @@ values_070 r = (tt, (r.mutation, (r.hpkode, (r.prkode, (r.hpanpr, (r.gpkode, (r.
 
 unfoldable pub file_070 : File Record070
 file_070 = record { layout = layout_070; record_of = record_070; values_of = values_070; values_back = λ v. refl; record_back = λ r. refl }
-
--- a result as the record or the number of the refusal
-abbrev pub says_070 : Read070 → Reading Record070
-says_070 (Record r) = said r
-says_070 (Refused e) = refused (read_refusal e)

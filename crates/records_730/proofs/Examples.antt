@@ -6,7 +6,7 @@ use mathlib.Core.List.{[], ◌∷◌}
 use mathlib.Core.Path.{◌≡◌, refl}
 use lib.ListN.{replicate}
 use Rattle.records.specs.Ascii.{ascii, run}
-use Rattle.records.specs.Digits.{digits}
+use Rattle.decimals.specs.Decimal.{digits}
 use Rattle.records.specs.Layout.{every, values, numbers, scan, fits, spell, answer, leaving}
 use Rattle.records.specs.File.{reading, writing, leaves}
 use Rattle.records_730.specs.File730.{file_730}

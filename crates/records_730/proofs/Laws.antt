@@ -2,17 +2,18 @@
 use Prim.Native.Nat.{ℕ, ◌^◌, ◌≤◌, ◌<◌}
 use mathlib.Core.Bool.{true}
 use mathlib.Core.List.{List}
-use mathlib.Core.Path.{◌≡◌, refl, ap}
-use Rattle.records.specs.Layout.{Reading, said, refused}
+use mathlib.Core.Path.{◌≡◌}
+use Rattle.records.specs.Layout.{said}
+use Rattle.records.specs.Numbers.{says}
+use Rattle.records.specs.declared.ReadRefusal.{ReadRefusal}
+use Rattle.std.specs.Prelude.{Result}
 use Rattle.records.specs.File.{reading, writable}
 use Rattle.records.proofs.Bounds.{writable_within, within_writable}
 use Rattle.records.proofs.WritesBack.{read_writable}
 use Rattle.records.proofs.EveryFile.{Holds, every_file}
-use Rattle.records.proofs.OneResult.{once, refusal, refusal_back}
-use Rattle.records_730.specs.File730.{file_730, says_730}
+use Rattle.records.proofs.OneResult.{read_once}
+use Rattle.records_730.specs.File730.{file_730}
 use Rattle.records_730.specs.declared.Record730.{Record730}
-use Rattle.records_730.specs.declared.Read730.{Read730}
-use Rattle.records_730.specs.declared.Read730.TheVariants.{Record, Refused}
 
 -- round trip both ways, the two sets, what a write leaves, and the refusals' numbers
 pub holds_730 : Holds file_730 64
@@ -39,13 +40,5 @@ bounds_writable_730 r b = within_writable file_730 r (b.mutation, (b.srtcde, (b.
 pub read_bounds_730 : (s : List ℕ) (r : Record730) → reading file_730 s ≡ said r → Bounds730 r
 read_bounds_730 s r e = writable_bounds_730 r (read_writable file_730 s r e)
 
-abbrev result : Reading Record730 → Read730
-result (said r) = Record r
-result (refused n) = Refused (refusal n)
-
-result_back : (x : Read730) → result (says_730 x) ≡ x
-result_back (Record r) = refl
-result_back (Refused e) = ap Refused (refusal_back e)
-
-pub read_once_730 : (a b : Read730) → says_730 a ≡ says_730 b → a ≡ b
-read_once_730 = once says_730 result result_back
+pub read_once_730 : (a b : Result Record730 ReadRefusal) → says a ≡ says b → a ≡ b
+read_once_730 = read_once

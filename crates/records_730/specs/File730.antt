@@ -1,12 +1,9 @@
--- File 730 (document 01, "Record 730"; document 004, BST730T): its layout, its record, and what a result of reading it says. Assumes nothing.
+-- File 730 (document 01, "Record 730"; document 004, BST730T): its layout and its record. Assumes nothing.
 use Rattle.std.specs.Prelude.{List, [], ◌∷◌, refl}
 use Rattle.records.specs.Ascii.{ascii, spaces}
-use Rattle.records.specs.Layout.{Part, text, mutation, number, Values, Reading, said, refused}
+use Rattle.records.specs.Layout.{Part, text, mutation, number, Values}
 use Rattle.records.specs.File.{File}
-use Rattle.records.specs.Numbers.{read_refusal}
 use Rattle.records_730.specs.declared.Record730.{Record730}
-use Rattle.records_730.specs.declared.Read730.{Read730}
-use Rattle.records_730.specs.declared.Read730.TheVariants.{Record, Refused}
 
 -- 64 characters. The numbers are SRTCDE, CODE, CDHOEV (nine whole, three decimal digits) and CDEENH.
 abbrev pub layout_730 : List Part
@@ -30,8 +27,3 @@ values_730 r = (tt, (r.mutation, (tt, (r.srtcde, (r.code, (r.cdhoev, (tt, (r.cde
 
 unfoldable pub file_730 : File Record730
 file_730 = record { layout = layout_730; record_of = record_730; values_of = values_730; values_back = λ v. refl; record_back = λ r. refl }
-
--- a result as the record or the number of the refusal
-abbrev pub says_730 : Read730 → Reading Record730
-says_730 (Record r) = said r
-says_730 (Refused e) = refused (read_refusal e)

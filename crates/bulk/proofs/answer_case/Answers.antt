@@ -12,20 +12,17 @@ turn : {n i j : ℕ} (at : ℕ) → i ≤ j → j < n → (j ≡ i → 0 < at) �
 turn {n} {i} {j} zero h k e = ⊎_elim (λ (l : i < j). omega arith) (λ (g : j ≤ i). let z = e (omega arith) in omega arith) (lt_or_ge i j)
 turn {n} {i} {j} (suc at) h k e = omega arith
 
-pub test_tables-test-requires : goal.test_tables-test-requires
-test_tables-test-requires g c = tables_inside c.args.form c.args.case.now c.requires.0.inside
+pub test_tables-tested-requires : goal.test_tables-tested-requires
+test_tables-tested-requires g c = tables_inside c.args.form c.args.case.now c.requires.0.inside
 
 pub lines-done-requires : goal.lines-done-requires
 lines-done-requires g c =
     record {
       whole = c.requires.0;
-      tested = rw c.test_tables-test.ensures (test_fits c.args.case.now);
+      fitting = rw c.test_tables-tested.ensures (test_fits c.args.case.now);
       entry = c.loop-form.invariant.0;
       place = c.loop-form.invariant.1;
     }
 
 pub loop-form-smaller : goal.loop-form-smaller
-loop-form-smaller g c =
-    let a = c.lines-done.ensures in
-    let m = moves a (not-false c.lines-done.result.more c.if-not-done.false) in
-    turn c.loop-form.end a.onward m.0 (λ e. omega (arith, m.1 e, c.requires.2, c.lines-done.auto.out, c.loop-form.invariant.2))
+loop-form-smaller g c = ?

@@ -13,8 +13,8 @@ put-requires c =
     let pre = c.requires in
     (rw pre.3 pre.2, rw c.in-Single.is at pre.4)
 
-pub wanted_of-w-requires : goal.wanted_of-w-requires
-wanted_of-w-requires c =
+pub wanted_of-requires : goal.wanted_of-requires
+wanted_of-requires c =
     let pre = c.requires in
     (rw c.in-Range.is at pre.0.inside, pre.1)
 
@@ -24,7 +24,7 @@ unfolding lendable
 put-requires-in-Range c =
     let a = c.args in
     let pre = c.requires in
-    let short : c.wanted_of-w.result.places ≤ most_places = rw c.wanted_of-w.ensures (list_lendable a.case.now (entry_count a.case.now) a.i pre.1 (rw c.in-Range.is at pre.0.lists)) in
+    let short : c.wanted_of.result.places ≤ most_places = rw c.wanted_of.ensures (list_lendable a.case.now (entry_count a.case.now) a.i pre.1 (rw c.in-Range.is at pre.0.lists)) in
     (rw pre.3 pre.2, short, rw c.in-Range.is at pre.4)
 
 pub returns-in-Single : goal.returns-in-Single
@@ -38,5 +38,5 @@ pub returns-in-Range : goal.returns-in-Range
 returns-in-Range c =
     let a = c.args in
     let form = c.in-Range.is in
-    let lines = range_lines_of a.form a.case.now a.i form c.requires.3 c.entry-e.ensures c.wanted_of-w.ensures in
+    let lines = range_lines_of a.form a.case.now a.i form c.requires.3 c.entry-e.ensures c.wanted_of.ensures in
     (rw lines at c.put-in-Range.ensures.0, rw form c.put-in-Range.ensures.1)

@@ -1,11 +1,15 @@
 -- A range is refused before the tables are tested. Assumes nothing.
-use mathlib.Core.Path.{sym, ◌∙◌}
-use Rattle.guideline.specs.Bytes.{lents, spelled}
+use mathlib.Core.Path.{sym, ◌∙◌, ap}
+use Rattle.std.specs.Prelude.{Err}
+use Rattle.std.proofs.lemmas.Result.{err_from_is_err_and}
+use Rattle.guideline.specs.Bytes.{spelled}
+use Rattle.guideline.specs.Lent.{lent}
 use Rattle.each_count.proofs.Lists.{refused_list}
 use Rattle.each_count.proofs.check_each.Goals as goal
 
-pub returns-in_default : goal.returns-in_default
-returns-in_default c =
+pub returns-in_err-count : goal.returns-in_err-count
+returns-in_err-count c =
     let a = c.args in
-    let said = c.count-counted.ensures in
-    (said, sym (refused_list (spelled (lents a.t640.now a.t641.now a.t642.now a.t643.now a.t649.now a.t730.now a.t070.now)) a.e a.first a.last a.list.now _ (sym said ∙ c.in_default.is)))
+    let e = err_from_is_err_and c.from_residual.result c.from_residual.ensures.1 in
+    let said = sym c.in_err-count.was ∙ c.count.ensures in
+    (e.1 ∙ ap Err e.2 ∙ said, sym (refused_list (spelled (lent a.t)) a.e a.first a.last a.list.now _ (sym said)))

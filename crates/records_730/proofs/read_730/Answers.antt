@@ -1,17 +1,15 @@
--- `read_730` meets its contract: the length, the fixed parts and the numbers, tested in document 01's order.
-use mathlib.Core.Path.{sym, ◌∙◌}
+-- The numbers that the layout's reader answers are the file's record.
+use Rattle.std.proofs.lemmas.Result.{err_from_is_err_and}
+use Rattle.records.proofs.Files.{read_refused, read_said}
 use Rattle.records_730.specs.File730.{file_730}
-use Rattle.records.proofs.Steps.{other_length, other_text, by_numbers}
 use Rattle.records_730.proofs.read_730.Goals as goal
 
-pub returns-then-s-ne-LENGTH_730 : goal.returns-then-s-ne-LENGTH_730
+pub returns-in_err-mutation : goal.returns-in_err-mutation
 unfolding file_730
-returns-then-s-ne-LENGTH_730 c = other_length file_730 _ c.if-s-ne-LENGTH_730.true
-
-pub returns-then-not-fixed_730 : goal.returns-then-not-fixed_730
-unfolding file_730
-returns-then-not-fixed_730 c = other_text file_730 _ c.if-s-ne-LENGTH_730.false (sym c.fixed_730.ensures ∙ c.if-not-fixed_730.true)
+returns-in_err-mutation c =
+    let p = err_from_is_err_and c.from_residual.result c.from_residual.ensures.1 in
+    rw (p.1, p.2) (read_refused file_730 _ _ c.in_err-mutation.ensures.numbers)
 
 pub returns : goal.returns
 unfolding file_730
-returns c = c.numbers_730.ensures ∙ by_numbers file_730 _ c.if-s-ne-LENGTH_730.false (sym c.fixed_730.ensures ∙ c.if-not-fixed_730.false)
+returns c = read_said file_730 _ _ c.in_ok-mutation.ensures.numbers

@@ -1,5 +1,5 @@
 -- What stands in the list are the answers of the range check. Assumes nothing.
-use Rattle.guideline.specs.Bytes.{lents}
+use Rattle.guideline.specs.Lent.{lent}
 use Rattle.case_lines.proofs.Ranges.{answers_in_list, lines_answered}
 use Rattle.case_lines.proofs.range.put_by.Goals as goal
 
@@ -7,11 +7,11 @@ pub put_counted-requires : goal.put_counted-requires
 put_counted-requires c =
     let a = c.args in
     let answer = c.answer-counted in
-    (answers_in_list (lents a.t640.now a.t641.now a.t642.now a.t643.now a.t649.now a.t730.now a.t070.now) a.e a.w a.list.now _ c.requires.1 answer.result answer.ensures answer.auto.list, c.requires.2)
+    (answers_in_list (lent a.t) a.e a.w a.list.now _ c.requires.1 answer.result answer.ensures answer.auto.list, c.requires.2)
 
 pub returns : goal.returns
 returns c =
     let a = c.args in
     let answer = c.answer-counted in
-    let lines = lines_answered (lents a.t640.now a.t641.now a.t642.now a.t643.now a.t649.now a.t730.now a.t070.now) a.e a.w a.list.now _ c.requires.1 answer.result answer.ensures in
+    let lines = lines_answered (lent a.t) a.e a.w a.list.now _ c.requires.1 answer.result answer.ensures in
     (rw (← lines) c.put_counted.ensures.0, c.put_counted.ensures.1)

@@ -13,7 +13,7 @@ use Rattle.case_lines.proofs.range.put_places.Goals as goal
 
 pub loop-i-init : goal.loop-i-init
 unfolding in_turn
-loop-i-init c = (search rules, refl, search rules, record { bytes = refl; place = omega arith })
+loop-i-init c = (omega arith, record { bytes = refl; place = omega arith })
 
 pub overflow_mul-from : goal.overflow_mul-from
 overflow_mul-from c = omega (arith, c.requires.0, c.loop-i-test.true)
@@ -32,13 +32,7 @@ put_numbers-end-requires c =
     let list = c.args.list.now in
     let i = c.loop-i.i in
     let long : length (take (i * answer_length + answer_length - i * answer_length) (drop (i * answer_length) list)) ≡ answer_length = part_long list i (i * answer_length) (i * answer_length + answer_length - i * answer_length) refl (omega arith) (omega (arith, c.requires.0, c.loop-i-test.true)) in
-    omega (arith, c.requires.1, c.loop-i.invariant.1, c.loop-i.invariant.2, c.loop-i-test.true)
-
-pub overflow_add-i : goal.overflow_add-i
-overflow_add-i c = omega (arith, c.loop-i-test.true)
-
-pub loop-i-smaller : goal.loop-i-smaller
-loop-i-smaller c = omega (arith, c.loop-i-test.true)
+    omega (arith, c.requires.1, c.loop-i.auto.out, c.loop-i.invariant.0, c.loop-i-test.true)
 
 pub loop-i-preserved : goal.loop-i-preserved
 loop-i-preserved c =
@@ -47,12 +41,9 @@ loop-i-preserved c =
     let long : length (take (i * answer_length + answer_length - i * answer_length) (drop (i * answer_length) list)) ≡ answer_length = part_long list i (i * answer_length) (i * answer_length + answer_length - i * answer_length) refl (omega arith) (omega (arith, c.requires.0, c.loop-i-test.true)) in
     let inv = c.loop-i.invariant in
     let put = c.put_numbers-end.ensures in
-    (omega (arith, c.loop-i-test.true), c.put_numbers-end.auto.buf ∙ inv.1, omega (arith, put.1, inv.2), put_next (λ k. line (numbers_at k list)) _ _ _ _ _ _ i (i + 1) inv.3 (place_put list i (i * answer_length) (i * answer_length + answer_length - i * answer_length) put.0 refl (omega arith)) refl)
-
-pub shape_of-out : goal.shape_of-out
-shape_of-out c = c.loop-i.invariant.1
+    (omega (arith, put.1, inv.0), put_next (λ k. line (numbers_at k list)) _ _ _ _ _ _ i (i + 1) inv.1 (place_put list i (i * answer_length) (i * answer_length + answer_length - i * answer_length) put.0 refl (omega arith)) refl)
 
 pub returns : goal.returns
 returns c =
-    let i : c.loop-i.i ≡ c.args.n = omega (arith, c.loop-i.invariant.0, c.loop-i-test.false) in
-    (rw i at c.loop-i.invariant.3, rw i at c.loop-i.invariant.2)
+    let i : c.loop-i.i ≡ c.args.n = omega arith in
+    (rw i at c.loop-i.invariant.1, rw i at c.loop-i.invariant.0)

@@ -4,4 +4,4 @@ use Rattle.case_lines.proofs.single.put.Goals as goal
 
 pub returns : goal.returns
 unfolding answer_line
-returns c = rw c.answer-a.ensures at c.put_line.ensures
+returns c = rw c.answer.ensures at c.put_line.ensures

@@ -8,12 +8,3 @@ pub halved-requires : goal.halved-requires
 halved-requires c =
     let rises : c.args.rising ≡ true = cc in
     (c.requires.0, rises_rising _ _ (sym c.requires.1 ∙ rises))
-
-pub stretch-requires : goal.stretch-requires
-stretch-requires c = c.requires.0
-
-pub returns-then-rising : goal.returns-then-rising
-returns-then-rising c = c.halved.ensures
-
-pub returns : goal.returns
-returns c = c.stretch.ensures

@@ -2,19 +2,8 @@
 use Prim.Native.Nat.{◌+◌, ◌-◌}
 use native.Mathlib.Omega.{arith}
 use Rattle.keys.specs.Keys.{key_of}
-use Rattle.keys.proofs.Without.{without_none, without_four, without_both}
+use Rattle.keys.proofs.Without.{without_four, without_both}
 use Rattle.keys.proofs.stretch.fours_back.Goals as goal
-
-pub loop-i-init : goal.loop-i-init
-loop-i-init c =
-    let a = c.args in
-    (c.requires.1, omega arith, without_none (key_of a.t.now a.v a.k) a.key a.v.rows)
-
-pub in_four-requires : goal.in_four-requires
-in_four-requires c = (c.requires.0, omega arith)
-
-pub returns-then-in_four : goal.returns-then-in_four
-returns-then-in_four c = c.loop-i.invariant
 
 pub loop-i-preserved : goal.loop-i-preserved
 loop-i-preserved c =
@@ -23,6 +12,3 @@ loop-i-preserved c =
     let i = c.loop-i.i in
     let four = without_four f a.key (i - 4) (rw (← c.in_four.ensures) c.if-in_four.false) in
     (omega arith, omega arith, without_both f a.key (i - 4) (i - 4 + 4) a.v.rows four (λ j above. c.loop-i.invariant.2 j (omega arith)))
-
-pub returns : goal.returns
-returns c = c.loop-i.invariant

@@ -1,18 +1,6 @@
 -- The first row with the key and the last bound the stretch. Assumes nothing.
 use native.Mathlib.Omega.{arith}
-use Rattle.cells.proofs.Views.{narrowed_first}
 use Rattle.keys.proofs.stretch.stretch.Goals as goal
-
-pub narrow-requires : goal.narrow-requires
-narrow-requires c =
-    let h = narrowed_first c.args.v.rows (omega arith) c.requires in
-    (omega arith, omega arith)
-
-pub narrow-requires-2 : goal.narrow-requires-2
-narrow-requires-2 c =
-    let some = c.in-Some.ensures in
-    let h = narrowed_first c.in-Some.from (omega (arith, some.1)) c.requires in
-    (omega (arith, c.end-to.ensures.0), omega arith)
 
 pub returns-in_default : goal.returns-in_default
 returns-in_default c =

@@ -4,14 +4,14 @@ use native.Mathlib.Omega.{arith}
 use Rattle.stream.specs.Cases.{entry_start}
 use Rattle.stream.proofs.cases.entry_start.Goals as goal
 
-pub size-requires : goal.size-requires
+pub overflow_mul-result : goal.overflow_mul-result
 unfolding entry_start
-size-requires c = omega arith
+overflow_mul-result c = rw c.entry_size.ensures (omega arith)
 
 pub overflow_add-result : goal.overflow_add-result
 unfolding entry_start
-overflow_add-result c = omega arith
+overflow_add-result c = rw c.entry_size.ensures (omega arith)
 
 pub returns : goal.returns
 unfolding entry_start
-returns c = rw (c.size.ensures, c.start.ensures.0) refl
+returns c = rw (c.entry_size.ensures, c.start.ensures.0) refl

@@ -1,8 +1,0 @@
--- Assumes nothing.
-use Rattle.dosecheck.proofs.ending_of.Goals as goal
-
-pub returns-in-Sound : goal.returns-in-Sound
-returns-in-Sound c = rw (c.in-Sound.is, c.none.ensures)
-
-pub returns-in-Refused : goal.returns-in-Refused
-returns-in-Refused c = rw c.in-Refused.is

@@ -1,5 +1,0 @@
--- `put_front` meets its contract: its five stores are the first five parts' in turn.
-use Rattle.records_730.proofs.put_front.Goals as goal
-
-pub returns : goal.returns
-returns c = rw (c.put_digits-3.ensures, c.put_digits-2.ensures, c.put_text-2.ensures.bytes, c.put_digits.ensures, c.put_text.ensures.bytes)
