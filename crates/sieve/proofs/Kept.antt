@@ -1,6 +1,6 @@
 -- The rows that are left: what the first place tells of them, and what a filter more leaves of them. Assumes nothing.
 use Prim.Native.Nat.{ℕ}
-use mathlib.Core.Path.{◌≡◌, refl, sym, ◌∙◌, ap, fun_ext}
+use mathlib.Core.Path.{◌≡◌, sym, ◌∙◌, ap, fun_ext}
 use mathlib.Core.Bool.{Bool, false, ◌&&◌, and_assoc}
 use mathlib.Core.List.{List}
 use native.Mathlib.Omega.{arith}
@@ -19,7 +19,7 @@ use Rattle.filter.specs.declared.Filter.{Filter}
 use Rattle.filter.specs.Filters.{filter643}
 use Rattle.sieve.specs.declared.left.Left.{Left}
 use Rattle.sieve.specs.declared.settled.Settled.{Settled}
-use Rattle.sieve.specs.Settled.{nothing_settled, settled643}
+use Rattle.sieve.specs.Settled.{settled643}
 use Rattle.sieve.specs.Left.{kept_in, kept, passing}
 
 -- is there a row with a property more?
