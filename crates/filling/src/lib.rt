@@ -10,7 +10,6 @@ ghost use Rattle.filling.specs.Fills.{by_row};
 use guideline::entries::{Data, Entry, Prescription};
 use guideline::refusals::{Ending, Refusal};
 use guideline::rows::Row070;
-use guideline::{both, either};
 use keys::lent::Lent;
 use tables::found::Found;
 
@@ -20,10 +19,8 @@ fn agrees(r: Row070, e: Entry) -> bool
     ensures { result ≡ agrees r e }
 {
     let gpk = e.rest.gpk;
-    both(
-        e.known.prk.is_none_or(|prk| prk == r.prkode),
-        either(gpk == Prescription::NO_GPK, gpk == r.gpkode),
-    )
+    e.known.prk.is_none_or(|prk| prk == r.prkode)
+        && (gpk == Prescription::NO_GPK || gpk == r.gpkode)
 }
 
 #[tactic(auto, unfolding(guideline::specs::Filling::gpk_filled))]

@@ -15,7 +15,6 @@ ghost use Rattle.quiet.specs.Suppressed.{outcome};
 use crate::fitting::fitting;
 use crate::lower::lower;
 use filter::{Filter, Measure};
-use guideline::both;
 use guideline::context::Context;
 use guideline::entries::{Data, Prescription, switched};
 use guideline::refusals::Question;
@@ -30,19 +29,14 @@ mod lower;
 mod rule;
 
 // 3.4.2, the setting of the host and the three conditions.
+#[tactic(auto, unfolding(guideline::specs::Quiet::may_suppress, guideline::specs::Quiet::risk_empty, guideline::specs::Quiet::for_Q_general, guideline::specs::Quiet::entered_per_day))]
 fn may_suppress(p: Prescription, c: Context) -> bool
     ensures { result ≡ may_suppress p c }
 {
-    both(
-        switched(p.quiet),
-        both(
-            c.product.gprisc == Row640::EMPTY,
-            both(
-                c.setting.icpcnr1 == Setting::Q_GENERAL,
-                p.time == TimeUnit::PER_DAY,
-            ),
-        ),
-    )
+    switched(p.quiet)
+        && c.product.gprisc == Row640::EMPTY
+        && c.setting.icpcnr1 == Setting::Q_GENERAL
+        && p.time == TimeUnit::PER_DAY
 }
 
 // Is the signal suppressed, where no row that passed the age has the frequency? Or a weight or a surface is asked for.

@@ -8,7 +8,6 @@ ghost use Rattle.units.specs.Comparing.{Amounts, Tested};
 use crate::rule::judge;
 use cells::row::TableRow;
 use guideline::context::Ratio;
-use guideline::either;
 use guideline::entries::Prescription;
 use guideline::rows::{Row643, Row649};
 use keys::lent::Lent;
@@ -27,7 +26,7 @@ pub fn lower(left: Left<'_>, t649: &Lent<'_, Row649>, p: Prescription, q: Ratio)
         let Some(allows) = judge(left.settled, t649, p, q, rows.row(here)) else {
             return false;
         };
-        more = either(more, allows);
+        more |= allows;
     }
     more
 }

@@ -7,7 +7,6 @@ ghost use Rattle.sieve.specs.Settled.{settled643};
 ghost use Rattle.units.specs.Comparing.{Amounts, Products, Tested};
 ghost use Rattle.quiet.specs.Judged.{judged};
 
-use guideline::both;
 use guideline::context::Ratio;
 use guideline::entries::Prescription;
 use guideline::rows::{Row643, Row649};
@@ -16,16 +15,14 @@ use sieve::settled::Settled;
 use tables::found::Found;
 
 // 3.4.2.3 to 3.4.2.5. The products of the day doses can pass 64 bits.
+#[tactic(auto, unfolding(guideline::specs::Steps::below, guideline::specs::Quiet::maximum_given, guideline::specs::Quiet::above_dose, guideline::specs::Quiet::above_day_dose))]
 fn allows_more(p: Prescription, q: Ratio, row: Row643, m: Row649) -> bool
     requires { Products q m.normmaximum p.highest }
     ensures { result ≡ (maximum_given m && (above_dose p q m && above_day_dose p q row m)) }
 {
     let entered = p.highest as u64 * p.count as u64;
     let most = m.normmaximum as u64 * row.gpdfaa as u64;
-    both(
-        units::below(q, m.normmaximum, p.highest),
-        exact::less(entered, q.base, most, q.entered),
-    )
+    units::below(q, m.normmaximum, p.highest) && exact::less(entered, q.base, most, q.entered)
 }
 
 // 3.4.2.2, where the rule has one row.

@@ -5,7 +5,6 @@ ghost use Rattle.filter.specs.Filters.{filter643};
 ghost use Rattle.sieve.specs.Settled.{nothing_settled, and_age, and_frequency, and_measure, settled643};
 
 use filter::{Filter, Measure};
-use guideline::both;
 use guideline::rows::Row643;
 
 // An age and the measures are settled by a number alone: it takes half the bytes of a filter on the stack. None: nothing is settled yet.
@@ -75,14 +74,14 @@ impl Settled {
         let by_surface = self
             .surface
             .is_none_or(|x| filter::fits_measure(r, Measure::Surface, x));
-        let measured = both(by_weight, by_surface);
-        both(by_age, both(by_frequency, measured))
+        // `&` makes no branch: the pass over the rows of a category is measured.
+        by_age & by_frequency & by_weight & by_surface
     }
 
     // Does a row pass what is settled, and a filter?
     pub fn passes_and(self, r: Row643, filter: Filter) -> bool
         ensures { result ≡ (settled643 self r && filter643 filter r) }
     {
-        both(self.passes(r), filter::passes(r, filter))
+        self.passes(r) && filter::passes(r, filter)
     }
 }

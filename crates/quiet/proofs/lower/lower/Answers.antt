@@ -32,7 +32,7 @@ loop-here-preserved c =
     let here = c.judge.ensures ∙ ap (λ (r : Row643). judged (settled643 s r && b r) (settled643 s r && m r)) c.row.ensures in
     let free = freed _ _ (sym here ∙ c.in-Some-judge.is) in
     let looked = looked_on a.left m c.loop-here.invariant.2 c.in-Some.ensures free.1 in
-    (omega (arith, c.in-Some.ensures.1), looked_on a.left b c.loop-here.invariant.1 c.in-Some.ensures free.0, rw c.either-more.ensures looked)
+    (omega (arith, c.in-Some.ensures.1), looked_on a.left b c.loop-here.invariant.1 c.in-Some.ensures free.0, looked)
 
 pub returns : goal.returns
 unfolding lower

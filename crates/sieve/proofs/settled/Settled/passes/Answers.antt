@@ -1,5 +1,6 @@
 -- The five tests are those of the definition. Assumes nothing.
 use borrow.Author.Rules.{rules}
+use mathlib.Core.Bool.{and_assoc}
 use Rattle.filter.specs.declared.Filter.TheVariants.{Age, FitsMeasure}
 use Rattle.filter.specs.declared.Measure.TheVariants.{Weight, Surface}
 use Rattle.sieve.specs.Settled.{settled643}
@@ -13,4 +14,4 @@ returns c =
     let age = by_value Age a.r a.self.age c.is_none_or-by_age.ensures (λ n k. search rules) in
     let weight = by_value (FitsMeasure Weight) a.r a.self.weight c.is_none_or-by_weight.ensures (λ n k. search rules) in
     let surface = by_value (FitsMeasure Surface) a.r a.self.surface c.is_none_or-by_surface.ensures (λ n k. search rules) in
-    rw (c.both-2.ensures, c.both.ensures, c.both-measured.ensures, surface, weight, c.passes-by_frequency.ensures, age)
+    rw (surface, weight, c.passes-by_frequency.ensures, age, and_assoc, and_assoc)
