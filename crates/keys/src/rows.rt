@@ -10,8 +10,8 @@ pub struct KeyRows<'a, R: TableRow> {
     pub bytes: &'a [u8],
     pub view: View,
     pub key: u32,
-    // No value: it says whose rows these are.
-    pub of: [R; 0],
+    // Empty: it says whose rows these are.
+    pub of: &'a [R],
     ghost fits: { Fits R.WIDTH view (length bytes.now) },
 }
 
@@ -37,7 +37,7 @@ impl<'a, R: TableRow> KeyRows<'a, R> {
             bytes: self.bytes,
             view,
             key: self.key,
-            of: [],
+            of: &[],
         }
     }
 }
