@@ -19,11 +19,11 @@ lines-done-requires g c =
     record {
       whole = c.requires.0;
       fitting = rw c.test_tables-tested.ensures (test_fits c.args.case.now);
-      entry = c.loop-form.invariant.0;
-      place = c.loop-form.invariant.1;
+      entry = c.loop-left.invariant.0;
+      place = c.loop-left.invariant.1;
     }
 
-pub loop-form-smaller : goal.loop-form-smaller
-loop-form-smaller g c =
+pub loop-left-smaller : goal.loop-left-smaller
+loop-left-smaller g c =
     let m = moves c.lines-done.ensures c.in-Some.is in
-    turn c.loop-form.end m.0 m.1 (λ e. omega (arith, m.2 e, c.requires.2, c.lines-done.auto.out, c.loop-form.invariant.2))
+    turn c.loop-left.end m.0 m.1 (λ e. omega (arith, m.2 e, c.requires.2, c.lines-done.auto.out, c.loop-left.invariant.2))

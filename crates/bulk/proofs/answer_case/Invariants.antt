@@ -8,8 +8,8 @@ abbrev pub used : ℕ → ℕ
 used zero = 0
 used (suc n) = 1
 
-abbrev pub invariant-loop-form : goal.invariant-loop-form
-invariant-loop-form g l = (l.next ≤ entry_count l.case) × (l.end ≤ length l.out) × (length l.out ≡ length l.initial.out)
+abbrev pub invariant-loop-left : goal.invariant-loop-left
+invariant-loop-left g l = (l.next ≤ entry_count l.case) × (l.end ≤ length l.out) × (length l.out ≡ length l.initial.out)
 
-abbrev pub decreases-loop-form : goal.decreases-loop-form
-decreases-loop-form g l = 2 * (entry_count l.case - l.next) + used l.end
+abbrev pub decreases-loop-left : goal.decreases-loop-left
+decreases-loop-left g l = 2 * (entry_count l.case - l.next) + used l.end
