@@ -18,12 +18,17 @@ pub fn lower(left: Left<'_>, t649: &Lent<'_, Row649>, p: Prescription, q: Ratio)
     requires { Amounts q × Tested p (lent_rows t649.now) }
     ensures { result ≡ lower (lent_rows t649.now) p q (kept left.entry) }
 {
-    let rows = &left.rows;
     let mut more = false;
     let mut from: usize = 0;
-    while let Some(here) = next(rows.bytes, rows.view, Row643::KEY, rows.key, from) {
+    while let Some(here) = next(
+        left.rows.bytes,
+        left.rows.view,
+        Row643::KEY,
+        left.rows.key,
+        from,
+    ) {
         from = here + 1;
-        let Some(allows) = judge(left.settled, t649, p, q, rows.row(here)) else {
+        let Some(allows) = judge(left.settled, t649, p, q, left.rows.row(here)) else {
             return false;
         };
         more |= allows;

@@ -19,7 +19,7 @@ unfolding dose_row
 returns-then-number-gt-MOST c =
     let a = c.args in
     let d = datum a.d in
-    let limits = lent_rows a.t649 in
+    let limits = lent_rows a.t649.now in
     let t = key_rows c.of_key-rows.result in
     let many : most_in_category < number (t every) = rw (← c.number.ensures) (omega arith) in
     too_many d limits a.p a.c t many ∙ ap (λ (rows : Table Row643). answered (run d (of_rows limits a.p a.c rows))) c.of_key-rows.ensures.rows
@@ -29,7 +29,7 @@ unfolding dose_row
 returns-in_err-aged c =
     let a = c.args in
     let d = datum a.d in
-    let limits = lent_rows a.t649 in
+    let limits = lent_rows a.t649.now in
     let t = key_rows c.of_key-rows.result in
     let few : number (t every) ≤ most_in_category = rw (← c.number.ensures) (omega arith) in
     let q = err_from_is_err_and c.from_residual.result c.from_residual.ensures.1 in
@@ -46,7 +46,7 @@ unfolding dose_row
 returns-in_err-often c =
     let a = c.args in
     let d = datum a.d in
-    let limits = lent_rows a.t649 in
+    let limits = lent_rows a.t649.now in
     let t = key_rows c.of_key-rows.result in
     let few : number (t every) ≤ most_in_category = rw (← c.number.ensures) (omega arith) in
     let aged = c.in_ok-aged.ensures d in
@@ -59,7 +59,7 @@ unfolding dose_row by_weight
 returns-in_err-heavy c =
     let a = c.args in
     let d = datum a.d in
-    let limits = lent_rows a.t649 in
+    let limits = lent_rows a.t649.now in
     let t = key_rows c.of_key-rows.result in
     let few : number (t every) ≤ most_in_category = rw (← c.number.ensures) (omega arith) in
     let aged = c.in_ok-aged.ensures d in
@@ -78,7 +78,7 @@ unfolding dose_row by_weight by_surface
 returns-in_err-large c =
     let a = c.args in
     let d = datum a.d in
-    let limits = lent_rows a.t649 in
+    let limits = lent_rows a.t649.now in
     let t = key_rows c.of_key-rows.result in
     let few : number (t every) ≤ most_in_category = rw (← c.number.ensures) (omega arith) in
     let aged = c.in_ok-aged.ensures d in
@@ -93,7 +93,7 @@ unfolding dose_row by_weight by_surface
 returns c =
     let a = c.args in
     let d = datum a.d in
-    let limits = lent_rows a.t649 in
+    let limits = lent_rows a.t649.now in
     let t = key_rows c.of_key-rows.result in
     let few : number (t every) ≤ most_in_category = rw (← c.number.ensures) (omega arith) in
     let aged = c.in_ok-aged.ensures d in

@@ -17,8 +17,8 @@ unfolding lower
 returns-in_default-judge c =
     let a = c.args in
     let s = a.left.settled in
-    let b = bars (lent_rows a.t649) in
-    let m = allows_more (lent_rows a.t649) a.p a.q in
+    let b = bars (lent_rows a.t649.now) in
+    let m = allows_more (lent_rows a.t649.now) a.p a.q in
     let here = c.judge.ensures ∙ ap (λ (r : Row643). judged (settled643 s r && b r) (settled643 s r && m r)) c.row.ensures in
     let looked = looked_on a.left b c.loop-here.invariant.1 c.in-Some.ensures (barred _ _ (sym here ∙ c.in_default-judge.is)) in
     rw (looked.1 refl)
@@ -27,8 +27,8 @@ pub loop-here-preserved : goal.loop-here-preserved
 loop-here-preserved c =
     let a = c.args in
     let s = a.left.settled in
-    let b = bars (lent_rows a.t649) in
-    let m = allows_more (lent_rows a.t649) a.p a.q in
+    let b = bars (lent_rows a.t649.now) in
+    let m = allows_more (lent_rows a.t649.now) a.p a.q in
     let here = c.judge.ensures ∙ ap (λ (r : Row643). judged (settled643 s r && b r) (settled643 s r && m r)) c.row.ensures in
     let free = freed _ _ (sym here ∙ c.in-Some-judge.is) in
     let looked = looked_on a.left m c.loop-here.invariant.2 c.in-Some.ensures free.1 in
@@ -38,5 +38,5 @@ pub returns : goal.returns
 unfolding lower
 returns c =
     let a = c.args in
-    rw (← looked_all a.left (bars (lent_rows a.t649)) c.loop-here.invariant.1 c.in_default.ensures)
-    (looked_all a.left (allows_more (lent_rows a.t649) a.p a.q) c.loop-here.invariant.2 c.in_default.ensures)
+    rw (← looked_all a.left (bars (lent_rows a.t649.now)) c.loop-here.invariant.1 c.in_default.ensures)
+    (looked_all a.left (allows_more (lent_rows a.t649.now) a.p a.q) c.loop-here.invariant.2 c.in_default.ensures)

@@ -15,24 +15,24 @@ pub of_limits-requires : goal.of_limits-requires
 unfolding shown_by seen
 of_limits-requires c =
     let a = c.args in
-    let one = found_told (lent_rows a.t649 (keyed T649 a.row.gpddnr)) c.look_up.ensures c.in-One.is in
-    let sound = gives_table (sound_row T649) (rows_of T649 a.t649.bytes.now) c.requires.1.limits (keyed T649 a.row.gpddnr) c.in-One.m one in
+    let one = found_told (lent_rows a.t649.now (keyed T649 a.row.gpddnr)) c.look_up.ensures c.in-One.is in
+    let sound = gives_table (sound_row T649) (rows_of T649 a.t649.now.bytes.now) c.requires.1.limits (keyed T649 a.row.gpddnr) c.in-One.m one in
     maximum_products a.p a.q c.in-One.m c.requires.0 c.requires.1.prescription sound
 
 pub returns-in-Nothing : goal.returns-in-Nothing
 unfolding minimum_empty allows_more limits_for choose
 returns-in-Nothing c =
     let a = c.args in
-    rw (found_told (lent_rows a.t649 (keyed T649 a.row.gpddnr)) c.look_up.ensures c.in-Nothing.is)
+    rw (found_told (lent_rows a.t649.now (keyed T649 a.row.gpddnr)) c.look_up.ensures c.in-Nothing.is)
 
 pub returns-in-One : goal.returns-in-One
 unfolding minimum_empty allows_more limits_for choose
 returns-in-One c =
     let a = c.args in
-    rw (found_told (lent_rows a.t649 (keyed T649 a.row.gpddnr)) c.look_up.ensures c.in-One.is) c.of_limits.ensures
+    rw (found_told (lent_rows a.t649.now (keyed T649 a.row.gpddnr)) c.look_up.ensures c.in-One.is) c.of_limits.ensures
 
 pub returns-in-Many : goal.returns-in-Many
 unfolding minimum_empty allows_more limits_for choose
 returns-in-Many c =
     let a = c.args in
-    rw (found_told (lent_rows a.t649 (keyed T649 a.row.gpddnr)) c.look_up.ensures c.in-Many.is)
+    rw (found_told (lent_rows a.t649.now (keyed T649 a.row.gpddnr)) c.look_up.ensures c.in-Many.is)

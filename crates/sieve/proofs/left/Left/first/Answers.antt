@@ -9,5 +9,5 @@ use Rattle.sieve.proofs.left.Left.first.Goals as goal
 pub returns : goal.returns
 returns c =
     let a = c.args in
-    let p : Row643 → _ = λ r. settled643 a.self.settled r && filter643 a.filter r in
+    let p : Row643 → _ = λ r. settled643 a.self.now.settled r && filter643 a.filter r in
     c.first.ensures p (λ row b post. search rules)
