@@ -1,6 +1,6 @@
 -- Steps 7 to 11 as they run: each step, and then what follows from it. Assumes nothing.
 use Prim.Native.Nat.{◌≤◌, ◌<◌}
-use mathlib.Core.Path.{◌≡◌, ◌∙◌, ap, fun_ext}
+use mathlib.Core.Path.{◌≡◌, refl, ◌∙◌, ap, fun_ext}
 use borrow.Author.Tests.{le-leb, lt-leb}
 use Rattle.std.specs.Prelude.{Err}
 use Rattle.guideline.specs.declared.context.Context.{Context}
@@ -20,19 +20,24 @@ use Rattle.guideline.specs.Steps.{most_in_category, few, by_age, by_frequency, b
 use Rattle.guideline.proofs.Run.{run_bind}
 
 module _ (d : Datum → Value) (limits : Table Row649) (p : Prescription) (c : Context) (t : Table Row643) where
-  abbrev from_weight : Table Row643 → Step Row643
+  abbrev pub from_weight : Table Row643 → Step Row643
   from_weight f = by_weight f >>= λ w. by_surface w >>= one_row
 
-  abbrev from_frequency : Table Row643 → Step Row643
+  abbrev pub from_frequency : Table Row643 → Step Row643
   from_frequency a = by_frequency limits p c a >>= from_weight
 
-  pub too_many : most_in_category < number (t every) → Err (Ends TooManyRows) ≡ answered (run d (of_rows limits p c t))
-  unfolding of_rows few demand when refuse ◌>>◌ ◌>>=◌
-  too_many h = rw (lt-leb (number (t every)) most_in_category h)
+  -- the links are the guideline's chain
+  pub linked : of_rows limits p c t ≡ (few t >> (by_age c.age t >>= from_frequency))
+  unfolding of_rows
+  linked = refl
 
-  pub few_enough : number (t every) ≤ most_in_category → of_rows limits p c t ≡ (by_age c.age t >>= from_frequency)
-  unfolding of_rows few demand when ◌>>◌ ◌>>=◌
-  few_enough h = rw (le-leb (number (t every)) most_in_category h)
+  pub too_many : most_in_category < number (t every) → Err (Ends TooManyRows) ≡ answered (run d (of_rows limits p c t))
+  unfolding few demand when refuse ◌>>◌ ◌>>=◌
+  too_many h = rw (linked, lt-leb (number (t every)) most_in_category h)
+
+  few_enough : number (t every) ≤ most_in_category → of_rows limits p c t ≡ (by_age c.age t >>= from_frequency)
+  unfolding few demand when ◌>>◌ ◌>>=◌
+  few_enough h = rw (linked, le-leb (number (t every)) most_in_category h)
 
   -- where the rows are few enough
   module _ (h : number (t every) ≤ most_in_category) where

@@ -1,7 +1,8 @@
 -- The range of each datum, and the part of an entry that is never blank.
 use Prim.Native.Nat.{ℕ}
 use mathlib.Core.Path.{◌≡◌, refl}
-use mathlib.Core.Bool.{Bool, true, false, ◌&&◌}
+use mathlib.Core.Bool.{true, ◌&&◌}
+use Rattle.std.proofs.lemmas.Bool.{and_parts}
 use Rattle.guideline.specs.declared.entries.Datum.{Datum}
 use Rattle.guideline.specs.declared.entries.Datum.TheVariants.{Age, Sex, Hpk, Prk, Weight, Surface}
 use Rattle.guideline.specs.Types.{Value, Blank, Given, Switch, NotGiven, Position}
@@ -30,8 +31,4 @@ switch_ranged (Position n) = refl
 -- the part that is never blank is in range where the entry is
 pub prescription_fine : (e : Entry) → in_range e ≡ true → prescription_in_range e.rest ≡ true
 unfolding in_range
-prescription_fine e = go (prescription_in_range e.rest) (each (λ x. datum_in_range x (datum e.known x)))
-  where
-    go : (a b : Bool) → (a && b) ≡ true → a ≡ true
-    go true b h = refl
-    go false b h = h
+prescription_fine e h = (and_parts (prescription_in_range e.rest) _ h).0

@@ -1,5 +1,5 @@
 -- 3.4.2 as it runs: each step, and then what follows from it. Assumes nothing.
-use mathlib.Core.Path.{◌≡◌, ◌∙◌, ap, fun_ext}
+use mathlib.Core.Path.{◌≡◌, refl, ◌∙◌, ap, fun_ext}
 use mathlib.Core.Bool.{Bool, true, false}
 use Rattle.guideline.specs.declared.context.Context.{Context}
 use Rattle.guideline.specs.declared.entries.Datum.{Datum}
@@ -22,16 +22,21 @@ module _ (limits : Table Row649) (p : Prescription) (c : Context) (t : Table Row
   abbrev lowered : Table Row643 → Step Bool
   lowered s = Done (lower limits p c.ratio s)
 
-  abbrev from_surface : Table Row643 → Step Bool
+  abbrev pub from_surface : Table Row643 → Step Bool
   from_surface w = fitting_surface w >>= lowered
 
   abbrev by_weight : Step (Table Row643)
   by_weight = fitting_weight (among of_day t)
 
+  -- the links are the guideline's `suppresses`
+  pub linked : suppresses limits p c t ≡ when (may_suppress p c) (by_weight >>= from_surface) (Done false)
+  unfolding suppresses
+  linked = refl
+
   runs : may_suppress p c ≡ true → run d (suppresses limits p c t) ≡ after (run d by_weight) (λ w. after (run d (fitting_surface w)) (λ s. Chosen (lower limits p c.ratio s)))
-  unfolding suppresses when
+  unfolding when
   runs h =
-      rw h (run_bind d by_weight from_surface)
+      rw (linked, h) (run_bind d by_weight from_surface)
       ∙ ap (after (run d by_weight)) (fun_ext (λ w. run_bind d (fitting_surface w) lowered))
 
   module _ (h : may_suppress p c ≡ true) where

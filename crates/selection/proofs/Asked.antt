@@ -1,7 +1,6 @@
 -- What `ok_or` answers for a datum tells of the datum. Assumes nothing.
-use Rattle.std.specs.Prelude.{◌≡◌, ℕ, Option, None, Some, Result, Ok, Err}
+use Rattle.std.specs.Prelude.{◌≡◌, ℕ, None, Some, Result, Ok, Err}
 use Rattle.std.specs.Option.{ok_or}
-use Rattle.std.proofs.Common.{sym, ◌∙◌}
 use Rattle.guideline.specs.Types.{Value}
 use Rattle.guideline.specs.declared.refusals.Refusal.{Refusal}
 

@@ -1,6 +1,5 @@
 -- A refusal ends the chain; what was chosen goes on to the next step. Assumes nothing.
-use mathlib.Core.Path.{◌∙◌, ap}
-use Rattle.std.specs.Prelude.{Err}
+use mathlib.Core.Path.{◌∙◌}
 use Rattle.std.proofs.lemmas.Result.{err_from_is_err_and}
 use Rattle.guideline.specs.declared.context.Context.{Context}
 use Rattle.guideline.specs.Bytes.{seen, spelled}

@@ -1,5 +1,4 @@
 -- Each way out is the one that step 4's plan takes. Assumes nothing.
-use mathlib.Core.Path.{sym}
 use Rattle.std.proofs.lemmas.Result.{err_from_is_err_and}
 use borrow.Author.Tests.{eq-eqb, ne_eqb}
 use Rattle.guideline.specs.Ask.{◌>>=◌, ◌>>◌}
