@@ -14,7 +14,7 @@ use stream::cases::{Form, LONGEST, Next};
 // The lines of many cases have room in it, and so have those of any entry.
 const LARGE: usize = 65_536;
 
-// What came of reading a case. A whole one is so many bytes long.
+// What came of reading a case. A whole one is so many bytes long. No Result: a stream that is broken is answered by a line, and no error.
 #[derive(Clone, Copy)]
 enum Arrival {
     Case(usize),

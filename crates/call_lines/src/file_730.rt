@@ -66,6 +66,7 @@ impl CallRecord for Record730 {
     }
 }
 
+// These two stand under their names for who has the page of promises in hand.
 pub fn put_read_730(s: &[u8], n: usize, out: &mut [u8], at: usize) -> usize
     requires { (front + n ≤ length s.now) × (at + longest_line ≤ length out.old) }
     ensures { Put out.old at (read_call file_730 s.now n) out.new result × (result ≤ at + longest_line) }

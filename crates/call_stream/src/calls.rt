@@ -34,6 +34,7 @@ pub struct Call {
     pub bytes: usize,
 }
 
+// Two lists of numbers, each of its own kind.
 impl TryFrom<u32> for FileNumber {
     type Error = NoCall;
 

@@ -13,6 +13,7 @@ use guideline::answer::Answer;
 use guideline::entries::Entry;
 use guideline::lents::LentTables;
 
+// By the value, and no closure: what was tested goes into the contract.
 fn answer(t: LentTables<'_>, tested: Option<Tested>, e: Entry) -> Answer
     requires { Fitting tested (lent t) }
     ensures { result ≡ check (spelled (lent t.entry)) e }

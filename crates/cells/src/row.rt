@@ -1,4 +1,4 @@
-// What the tables have in common: a row is so many numbers of 32 bits, of which one is the key. One more table is one more impl.
+// What the tables have in common: a row is so many numbers of 32 bits, of which one is the key. One more table is one more impl, with its fields by name.
 ghost use Rattle.std.specs.Prelude.{◌≡◌, ◌<◌, ◌≤◌, ℕ, Bool, length, eqb};
 ghost use Rattle.guideline.specs.Bytes.{cell};
 ghost use Rattle.cells.specs.Views.{Fits};

@@ -1,4 +1,5 @@
 // Numbers in decimal and texts, written at a place of a lent buffer. What has a length of its own answers the place behind what it wrote.
+// A buffer and a place, and no Vec or writer: nothing is allocated, the buffer is the caller's, and `Put` says what each of its bytes is afterwards, in every crate above too.
 #![tactic(auto)]
 
 ghost use Rattle.std.specs.Prelude.{◌≡◌, ◌+◌, ◌≤◌, length};
@@ -24,6 +25,7 @@ pub fn put_digits(out: &mut [u8], at: usize, width: usize, n: u64)
 {
     let mut rest = n;
     for place in (at..at + width).rev() {
+        // By hand: `write!` has no promise of which bytes it writes.
         out[place] = b'0' + (rest % 10) as u8;
         rest /= 10;
     }

@@ -42,7 +42,10 @@ fn put_numbers(list: &mut [u32], at: usize, numbers: &[u32])
     requires { at + length numbers.now ≤ length list.old }
     ensures { list.new ≡ sets list.old at numbers.now }
 {
-    list[at..at + numbers.len()].copy_from_slice(numbers);
+    // No copy_from_slice, which may call memmove: the C functions that a program calls are pinned.
+    for (i, number) in numbers.iter().enumerate() {
+        list[at + i] = *number;
+    }
 }
 
 // P3: the range check "says on where its entry gives no setting".

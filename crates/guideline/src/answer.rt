@@ -6,7 +6,7 @@ ghost use Rattle.guideline.specs.Steps.{nothing, to_basis, to_category, to_rule}
 use crate::context::Context;
 use crate::rows::{Row641, Row643};
 
-// The nine numbers.
+// The nine numbers, as document 01 has them, high and low among them.
 #[derive(Clone, Copy)]
 pub struct Answer {
     pub answer: u32,

@@ -10,6 +10,7 @@ pub enum RangeRefusal {
 }
 
 impl RangeRefusal {
+    // A method and no From: the refusal is no number, it has one.
     pub fn number(self) -> u32
         ensures { result ≡ refusal_number self }
     {

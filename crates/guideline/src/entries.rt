@@ -89,6 +89,7 @@ pub struct Prescription {
     pub edition: u32,
 }
 
+// Codes are numbers and no enums: an entry may hold any number, and 125 judges it (`in_range`).
 impl Prescription {
     // "GPK (0 none)"
     pub const NO_GPK: u32 = 0;

@@ -81,7 +81,7 @@ pub enum Ending {
     LimitsSeveral,
 }
 
-// A step's refusal: it asks for a missing datum, or it ends the check.
+// A step's refusal: it asks for a missing datum, or it ends the check. No Result: either is a refusal.
 #[derive(Clone, Copy)]
 pub enum Refusal {
     Asks(Question),

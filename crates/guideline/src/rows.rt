@@ -14,7 +14,7 @@ pub enum TableName {
 }
 
 impl TableName {
-    // As the papers and the answers have it.
+    // As the papers and the answers have it: a method and no From, since the name is no number.
     pub fn number(self) -> u32
         ensures { result ≡ table_number self }
     {
@@ -98,6 +98,7 @@ pub struct Row070 {
     pub hpangp: u32,
 }
 
+// Codes are numbers and no enums: a lent row may hold any number, and 122 judges it (`sound_row`).
 impl Row640 {
     // GPDGST, and the sex of an entry.
     pub const MAN: u32 = 1;

@@ -13,6 +13,7 @@ pub struct Setting {
     pub route: u32,
 }
 
+// Codes are numbers and no enums: lent rows and entries may hold any number (122, 125).
 impl Setting {
     pub const INTENSIVE_CARE: u32 = 2;
 

@@ -1,4 +1,5 @@
-// The next row with a key. Most of a table is passed over four rows at a time.
+// The next row with a key. Most of a table is passed over four rows at a time. Bytes and a view, as in the rest of this crate below `KeyRows`, whose invariant asks for
+// all numbers of a row: here number k is enough.
 ghost use Rattle.std.specs.Prelude.{◌≡◌, ◌+◌, ◌≤◌, ◌<◌, length};
 ghost use Rattle.cells.specs.Views.{Fits};
 ghost use Rattle.keys.specs.Keys.{key_of, Next, Without, in_four};

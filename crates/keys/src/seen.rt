@@ -1,4 +1,4 @@
-// What was seen of a lent table by its tests: do its keys rise? It is computed, never claimed.
+// What was seen of a lent table by its tests: do its keys rise? It is computed, never claimed. A flag, with no value beside it.
 #[derive(Clone, Copy)]
 pub struct Seen {
     pub rising: bool,

@@ -17,6 +17,7 @@ pub enum ReadRefusal {
     Mutation,
 }
 
+// A number by a method and no From: a refusal is no number, it has one. Likewise below.
 impl ReadRefusal {
     pub fn number(self) -> u64
         ensures { result ≡ read_refusal self }

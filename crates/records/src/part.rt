@@ -11,7 +11,7 @@ use decimals::{put_digits, put_text};
 
 const HIGHEST_MUTATION: u64 = 3;
 
-// A number is that of so many digits.
+// A number is that of so many digits. No Option: each of the three has its own tests.
 #[derive(Clone, Copy)]
 pub enum Part {
     Text(&'static [u8]),

@@ -1,4 +1,4 @@
-// The rows that are looked for: none, the one, or how many.
+// The rows that are looked for: none, the one, or how many. No Option of one: several are refused where none is not.
 ghost use Rattle.std.specs.Prelude.{◌≡◌};
 ghost use Rattle.guideline.specs.Forms.{one};
 ghost use Rattle.guideline.specs.Results.{Chooses};
