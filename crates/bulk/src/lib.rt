@@ -128,6 +128,7 @@ fn answer_stream<R: Read, W: Write>(
     form: Form,
     case: &mut [u8; LONGEST],
 ) -> io::Result<()> {
+    // Of fixed length: no heap, so no Vec.
     let mut out = [0u8; LARGE];
     answer_all(reader, writer, form, case, &mut out)
 }

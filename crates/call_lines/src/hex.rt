@@ -3,7 +3,7 @@ ghost use Rattle.std.specs.Prelude.{◌≡◌, ◌+◌, ◌*◌, ◌≤◌, ◌<
 ghost use Rattle.decimals.specs.Put.{Put};
 ghost use Rattle.call_lines.specs.Lines.{hex_digit, hex};
 
-// By hand: `write!` has no promise of which bytes it writes.
+// By hand: `write!` promises its bytes to a String or a Vec, and nothing is allocated.
 fn hex_digit(d: u8) -> u8
     requires { d < 16 }
     ensures { result ≡ hex_digit d }

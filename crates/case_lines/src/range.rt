@@ -97,6 +97,7 @@ pub fn put(
     requires { Fitting tested (lent t) × (w.places ≤ most_places) × (at + longest_range ≤ length out.old) }
     ensures { Put out.old at (range_lines (spelled (lent t.entry)) e w) out.new result × (result ≤ at + longest_range) }
 {
+    // Of fixed length: no heap, so no Vec.
     let mut list = [0u32; LIST];
     let n = w.places as usize * Answer::LENGTH;
     put_by(t, tested, e, w, &mut list[..n], out, at)

@@ -25,7 +25,7 @@ pub fn put_digits(out: &mut [u8], at: usize, width: usize, n: u64)
 {
     let mut rest = n;
     for place in (at..at + width).rev() {
-        // By hand: `write!` has no promise of which bytes it writes.
+        // By hand: `write!` promises its bytes to a String or a Vec, and nothing is allocated.
         out[place] = b'0' + (rest % 10) as u8;
         rest /= 10;
     }

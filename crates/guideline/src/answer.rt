@@ -41,7 +41,7 @@ impl Answer {
     }
 }
 
-// What the steps have chosen so far; 0 is not reached.
+// What the steps have chosen so far; 0 is not reached, as in the numbers of the answer.
 #[derive(Clone, Copy)]
 pub struct Reached {
     pub basis: u32,

@@ -10,7 +10,7 @@ pub struct Bounds {
 }
 
 impl Bounds {
-    // A high bound of 999,999 means no upper bound.
+    // A high bound of 999,999 means no upper bound: a number and no Option, as the lent rows have it.
     pub const NO_BOUND: u32 = 999_999;
 
     #[tactic(auto, unfolding(crate::specs::Values::bounds_in_range))]

@@ -18,10 +18,7 @@ pub enum Datum {
 pub fn switched(setting: Option<u32>) -> bool
     ensures { result ≡ switched setting }
 {
-    match setting {
-        None => false,
-        Some(position) => position == Prescription::ON,
-    }
+    setting.is_some_and(|position| position == Prescription::ON)
 }
 
 // What is given, or else this position.

@@ -5,6 +5,7 @@ ghost use Rattle.guideline.specs.Lent.{lent};
 use crate::rows::TableName;
 
 // Each is what a caller lends under its name, as bytes.
+// Seven fields by name, as `AllSeen` of keys has seven: the rows of each are of another type.
 #[derive(Clone, Copy)]
 pub struct LentTables<'a> {
     pub t640: &'a [u8],

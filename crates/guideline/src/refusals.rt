@@ -108,10 +108,7 @@ impl Reached {
     pub fn at<A>(self, step: Result<A, Refusal>) -> Result<A, Stopped>
         ensures { result ≡ answered_at self step }
     {
-        match step {
-            Ok(chosen) => Ok(chosen),
-            Err(why) => Err(Stopped { why, reached: self }),
-        }
+        step.map_err(|why| Stopped { why, reached: self })
     }
 }
 

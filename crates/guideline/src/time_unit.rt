@@ -2,7 +2,7 @@
 ghost use Rattle.std.specs.Prelude.{◌≡◌};
 ghost use Rattle.guideline.specs.Values.{per_day, pair, twins};
 
-// A time unit of a frequency (GPDFEE). Twins stand in pairs.
+// A time unit of a frequency (GPDFEE): a number and no enum, since rows and entries may have any unit. Twins stand in pairs.
 #[derive(Clone, Copy)]
 pub struct TimeUnit {
     pub code: u32,

@@ -1,4 +1,4 @@
-// 3.4.2.2 to 3.4.2.5, of the rule of one row. None: it keeps the signal whatever the others say; else, does it allow more than the entered dose?
+// 3.4.2.2 to 3.4.2.5, of the rule of one row. None: it keeps the signal whatever the others say; else, does it allow more than the entered dose? An Option, since None ends the pass.
 ghost use Rattle.std.specs.Prelude.{◌≡◌, not, ◌&&◌, eqb};
 ghost use Rattle.guideline.specs.Quiet.{minimum_empty, maximum_given, above_dose, above_day_dose, allows_more};
 ghost use Rattle.guideline.specs.Values.{no_limit};

@@ -62,7 +62,7 @@ fn tested_all<R: Ranged>(t: &[u8]) -> Option<Seen>
     tested::<R>(t, cells::every_row::<R>(t))
 }
 
-// A table by its name.
+// A table by its name, once a table and not once a row.
 pub fn tested_table(t: &[u8], n: TableName) -> Option<Seen>
     ensures { result ≡ tested n t.now (by_rows n t.now) }
 {

@@ -119,6 +119,7 @@ fn answer_all<R: Read, W: Write>(
 }
 
 fn main(rt: HostRuntime) -> io::Result<()> {
+    // Of fixed length: no heap, so no Vec.
     let mut input = [0u8; LARGE];
     let mut out = [0u8; LARGE];
     let mut writer = rt.stdout();

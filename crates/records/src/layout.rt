@@ -10,7 +10,7 @@ use crate::part::Part;
 use crate::parts::has_room;
 use crate::{ReadRefusal, WriteRefusal};
 
-// A record of N parts. Its numbers stand in an array, one for each part, 0 for a fixed text.
+// A record of N parts. Its numbers stand in an array, one for each part, 0 for a fixed text, so that one array does for every file.
 #[derive(Clone, Copy)]
 pub struct Layout<const N: usize> {
     pub parts: &'static [Part],

@@ -13,7 +13,7 @@ pub fn is_text(s: &[u8], at: usize, text: &[u8]) -> bool
     text == &s[at..at + text.len()]
 }
 
-// The number that the digits at the place say. (Twelve is the widest field of the files.)
+// The number that the digits at the place say. (Twelve is the widest field of the files.) Not by `parse`, which takes a sign.
 pub fn number_at(s: &[u8], at: usize, width: usize) -> Result<u64, ReadRefusal>
     requires { (at + width ≤ length s.now) × (width ≤ 12) }
     ensures { result ≡ field_of (chars s.now at width) }

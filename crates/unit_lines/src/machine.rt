@@ -57,7 +57,7 @@ struct Moved {
     end: usize,
 }
 
-// Records that lie in the input whole, from the place where one begins.
+// Records that lie in the input whole, from the place where one begins. By `while`: it goes on by records, as long as there is room.
 fn list_whole(input: &[u8], from: usize, out: &mut [u8], at: usize) -> Moved
     requires { (from ≤ length input.now) × (at ≤ length out.old) }
     ensures { Moves (run (length out.old - at) [] (drop from input.now)) input.now from out.old at out.new result }

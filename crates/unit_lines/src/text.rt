@@ -28,7 +28,7 @@ impl ListMachine {
         &self.bytes[..self.len.min(KEPT_MOST)]
     }
 
-    // The last character of the text, 0 where there is none.
+    // The last character of the text, 0 where there is none: that is no CR, and nothing else is asked of it.
     pub fn last(&self) -> u8
         ensures { result ≡ last_of (text_of self.now) }
     {

@@ -68,6 +68,7 @@ fn list_end(last: Option<ListMachine>, out: &mut [u8]) -> usize
 }
 
 fn main(rt: HostRuntime) -> io::Result<()> {
+    // Of fixed length: no heap, so no Vec.
     let mut input = [0u8; PIECE];
     let mut out = [0u8; LARGE];
     let mut writer = rt.stdout();
