@@ -5,6 +5,7 @@
 pub mod find;
 pub mod first;
 pub mod halved;
+pub mod keyed;
 pub mod lent;
 pub mod next;
 pub mod rows;
