@@ -5,21 +5,26 @@ use Rattle.std.specs.Prelude.{Result, Ok, Err}
 use Rattle.guideline.specs.Types.{Value}
 use Rattle.guideline.specs.declared.answer.Reached.{Reached}
 use Rattle.guideline.specs.declared.answer.Verdict.{Verdict}
+use Rattle.guideline.specs.declared.context.Ratio.{Ratio}
 use Rattle.guideline.specs.declared.entries.Datum.{Datum}
 use Rattle.guideline.specs.declared.entries.Entry.{Entry}
+use Rattle.guideline.specs.declared.entries.Prescription.{Prescription}
 use Rattle.guideline.specs.declared.refusals.Ending.{Ending}
 use Rattle.guideline.specs.declared.refusals.Refusal.{Refusal}
 use Rattle.guideline.specs.declared.refusals.Refusal.TheVariants.{Ends}
 use Rattle.guideline.specs.declared.refusals.Stopped.{Stopped}
 use Rattle.guideline.specs.declared.rows.TableName.TheVariants.{T070}
 use Rattle.guideline.specs.Ask.{Plan, Outcome, Chosen, Refused, run, after, no_data, at, ◌>>=◌, ◌>>◌}
+use Rattle.guideline.specs.Bytes.{spelled}
 use Rattle.guideline.specs.Rows.{Tables}
 use Rattle.guideline.specs.Entries.{in_range}
 use Rattle.guideline.specs.Filling.{filling}
 use Rattle.guideline.specs.Results.{stopped_at, ended}
-use Rattle.guideline.specs.Steps.{nothing, sound, before_step_2}
+use Rattle.guideline.specs.Steps.{nothing, sound, selection, before_step_2}
 use Rattle.guideline.specs.Check.{up_to_step_2, from_step_2, outcome, answer}
 use Rattle.guideline.proofs.Run.{run_bind, run_at, where_reached, step_refused, step_chosen}
+use Rattle.keys.specs.declared.tables.SeenTables.{SeenTables}
+use Rattle.keys.specs.Tables.{bytes_of, rule_bytes}
 use Rattle.dosecheck.specs.Lines.{answer_to}
 
 pub answer_ended : (o : Outcome Reached Verdict) → answer_to (ended o) ≡ answer o
@@ -34,6 +39,11 @@ came (Refused why g) h e = absurd (cc)
 pub stopped : {A : Type 0} (o : Outcome Reached A) {r : Result A Stopped} {s : Stopped} → r ≡ ended o → r ≡ Err s → o ≡ Refused s.why s.reached
 stopped (Chosen x) h e = absurd (cc)
 stopped (Refused why g) {s = y} h e = let same : stopped_at g why ≡ y = cc in ap (λ (x : Stopped). Refused x.why x.reached) same
+
+-- steps 3 to 11 ask the five tables alone
+pub of_rules : (s : SeenTables) (p : Prescription) (q : Ratio) → selection (spelled (rule_bytes s.rules)) p q ≡ selection (spelled (bytes_of s)) p q
+unfolding selection spelled
+of_rules s p q = refl
 
 -- several steps, and then next
 module _ {A B : Type 0} (d : Datum → Value) (p : Plan Reached A) (next : A → Plan Reached B) {r : Result A Stopped} (h : r ≡ ended (run d p)) where

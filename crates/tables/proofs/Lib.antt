@@ -1,3 +1,4 @@
 pub mod Asked
 pub mod FoundTold
+pub mod Stretches
 pub mod Units

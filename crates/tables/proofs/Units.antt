@@ -10,7 +10,7 @@ use Rattle.guideline.specs.Rows.{keyed}
 use Rattle.guideline.specs.Steps.{unit_row}
 use Rattle.tables.specs.Tests.{of_unit}
 
-unit_of_code : (srtcde code unit : ℕ) → unit_row srtcde code unit ≡ (λ (r : Row730). keyed T730 code r && of_unit srtcde unit r)
+pub unit_of_code : (srtcde code unit : ℕ) → unit_row srtcde code unit ≡ (λ (r : Row730). keyed T730 code r && of_unit srtcde unit r)
 unfolding unit_row keyed
 unit_of_code srtcde code unit = fun_ext (λ r. and_swap (eqb r.srtcde srtcde) (eqb r.code code) (eqb r.cdeenh unit))
   where

@@ -4,11 +4,17 @@ use mathlib.Core.Bool.{true}
 use mathlib.Core.Path.{◌≡◌, sym, ◌∙◌, ap, subst}
 use Rattle.std.specs.Prelude.{Result, Ok, Err}
 use Rattle.std.proofs.lemmas.Result.{err_from_is_err_and}
+use Rattle.guideline.specs.declared.answer.Reached.{Reached}
+use Rattle.guideline.specs.declared.context.Ratio.{Ratio}
+use Rattle.guideline.specs.declared.context.Selected.{Selected}
+use Rattle.guideline.specs.declared.entries.Datum.{Datum}
 use Rattle.guideline.specs.declared.entries.Entry.{Entry}
+use Rattle.guideline.specs.declared.entries.Prescription.{Prescription}
 use Rattle.guideline.specs.declared.refusals.Refusal.{Refusal}
+use Rattle.guideline.specs.declared.refusals.Stopped.{Stopped}
 use Rattle.guideline.specs.declared.rows.Row649.{Row649}
 use Rattle.guideline.specs.declared.rows.TableName.TheVariants.{T649, T730, T070}
-use Rattle.guideline.specs.Ask.{run, no_data}
+use Rattle.guideline.specs.Ask.{Plan, run, no_data}
 use Rattle.guideline.specs.Bytes.{Lents, rows_of, seen, spelled}
 use Rattle.guideline.specs.Check.{from_step_2, outcome}
 use Rattle.guideline.specs.Entries.{datum, in_range, prescription_in_range}
@@ -16,13 +22,15 @@ use Rattle.guideline.specs.Filling.{filling}
 use Rattle.guideline.specs.Lent.{lent}
 use Rattle.guideline.specs.Results.{answered, ended}
 use Rattle.guideline.specs.Rows.{sound_row}
-use Rattle.guideline.specs.Steps.{ratio, nothing, over_sound}
+use Rattle.guideline.specs.Steps.{ratio, nothing, selection, over_sound}
 use Rattle.guideline.specs.Table.{all_rows}
+use Rattle.guideline.specs.Types.{Value}
 use Rattle.guideline.proofs.Answered.{chosen_of, refused_of}
 use Rattle.guideline.proofs.Ended.{stops, passes}
 use Rattle.guideline.proofs.Gives.{gives_table}
 use Rattle.cells.specs.Lents.{shown_by}
-use Rattle.keys.specs.Tables.{bytes_of}
+use Rattle.keys.specs.declared.tables.SeenTables.{SeenTables}
+use Rattle.keys.specs.Tables.{bytes_of, rule_bytes}
 use Rattle.entry.proofs.Ranged.{prescription_fine}
 use Rattle.filling.proofs.InRange.{filling_in_range}
 use Rattle.ranges.specs.Soundly.{soundness}
@@ -31,7 +39,7 @@ use Rattle.units.specs.Comparing.{Amounts}
 use Rattle.units.proofs.InRange.{answered_in_range}
 use Rattle.units.proofs.Sound.{comparable}
 use Rattle.dosecheck.proofs.Limits.{selected_kept}
-use Rattle.dosecheck.proofs.OutcomeLaws.{came, out_of_range, tables_stop, filling_stops, filled, plan_stops, plan_passes}
+use Rattle.dosecheck.proofs.OutcomeLaws.{came, of_rules, out_of_range, tables_stop, filling_stops, filled, plan_stops, plan_passes}
 use Rattle.dosecheck.proofs.outcome.Goals as goal
 
 -- an entry in range is so after filling
@@ -40,6 +48,10 @@ unfolding spelled
 fine_after b e {f} ranged sound_rows said chose =
     let t = (spelled b).rows T070 in
     prescription_fine f (filling_in_range e f t (gives_table (sound_row T070) (rows_of T070 (b T070)) sound_rows) (chosen_of (run no_data (filling t e)) said chose) ∙ ranged)
+
+-- what `select` says of the five tables it says of the seven
+selected : (s : SeenTables) (p : Prescription) (q : Ratio) (d : Datum → Value) {r : Result Selected Stopped} → r ≡ ended (run d (selection (spelled (rule_bytes s.rules)) p q)) → r ≡ ended (run d (selection (spelled (bytes_of s)) p q))
+selected s p q d h = h ∙ ap (λ (x : Plan Reached Selected). ended (run d x)) (of_rules s p q)
 
 pub returns-then-not-in_range : goal.returns-then-not-in_range
 returns-then-not-in_range c =
@@ -95,7 +107,7 @@ returns-in_err-s c =
     let f = c.in_ok-f.f in
     let d = datum f.known in
     let e = err_from_is_err_and c.from_residual-in_err-s.result c.from_residual-in_err-s.ensures.1 in
-    rw (e.1, e.2, ← c.of-seen.ensures) (plan_stops d _ _ c.select.ensures c.in_err-s.was
+    rw (e.1, e.2, ← c.of-seen.ensures) (plan_stops d _ _ (selected c.of-seen.result f.rest c.in_ok-ratio.ratio d c.select.ensures) c.in_err-s.was
     ∙ passes d nothing (ratio ((spelled b).rows T730) f.rest) _ (c.ratio.ensures d) c.in_ok-ratio.was
     ∙ filled (spelled b) c.args.e ranged k.1 (chosen_of (run no_data (filling ((spelled b).rows T070) c.args.e)) (c.fill.ensures no_data) c.in_ok-f.was))
 
@@ -108,7 +120,7 @@ compare-requires c =
     let d = datum f.known in
     let fine = fine_after b c.args.e (sym c.in_range.ensures ∙ c.if-not-in_range.false) (all_sound b told T070) (c.fill.ensures no_data) c.in_ok-f.was in
     let amounts = answered_in_range d ((spelled b).rows T730) f.rest (sym (c.ratio.ensures d) ∙ c.in_ok-ratio.was) in
-    let kept = selected_kept (λ (m : Row649). sound_row T649 m ≡ true) (spelled b) f.rest c.in_ok-ratio.ratio (gives_table (sound_row T649) (rows_of T649 (b T649)) (all_sound b told T649)) d (came _ c.select.ensures c.in_ok-s.was) in
+    let kept = selected_kept (λ (m : Row649). sound_row T649 m ≡ true) (spelled b) f.rest c.in_ok-ratio.ratio (gives_table (sound_row T649) (rows_of T649 (b T649)) (all_sound b told T649)) d (came _ (selected c.of-seen.result f.rest c.in_ok-ratio.ratio d c.select.ensures) c.in_ok-s.was) in
     comparable f.rest c.in_ok-s.s (subst Amounts (sym kept.1) amounts) fine kept.0
 
 pub returns : goal.returns
@@ -119,6 +131,6 @@ returns c =
     let k = sound_run b (sym c.in_ok-tested.was ∙ c.requires ∙ ap soundness (sym c.of-seen.ensures)) in
     let f = c.in_ok-f.f in
     let d = datum f.known in
-    rw (c.compare.ensures, c.to_rule.ensures, ← c.of-seen.ensures) (plan_passes d _ _ c.select.ensures c.in_ok-s.was
+    rw (c.compare.ensures, c.to_rule.ensures, ← c.of-seen.ensures) (plan_passes d _ _ (selected c.of-seen.result f.rest c.in_ok-ratio.ratio d c.select.ensures) c.in_ok-s.was
     ∙ passes d nothing (ratio ((spelled b).rows T730) f.rest) _ (c.ratio.ensures d) c.in_ok-ratio.was
     ∙ filled (spelled b) c.args.e ranged k.1 (chosen_of (run no_data (filling ((spelled b).rows T070) c.args.e)) (c.fill.ensures no_data) c.in_ok-f.was))
