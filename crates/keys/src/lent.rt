@@ -5,13 +5,14 @@ use crate::find::find;
 use crate::rows::KeyRows;
 use crate::seen::Seen;
 use cells::row::TableRow;
+use std::marker::PhantomData;
 
 #[derive(Drop)]
 pub struct Lent<'a, R: TableRow> {
     pub bytes: &'a [u8],
     pub seen: Seen,
-    // Empty: it says whose rows these are.
-    pub of: &'a [R],
+    // It takes no bytes, and says whose rows these are.
+    pub of: PhantomData<R>,
     ghost sees: { SeesBy R.WIDTH R.KEY bytes.now seen },
 }
 
@@ -29,7 +30,7 @@ impl<'a, R: TableRow> Lent<'a, R> {
         Lent {
             bytes,
             seen,
-            of: &[],
+            of: PhantomData,
         }
     }
 
@@ -46,7 +47,7 @@ impl<'a, R: TableRow> Lent<'a, R> {
             bytes: self.bytes,
             view,
             key,
-            of: &[],
+            of: PhantomData,
         }
     }
 }

@@ -4,14 +4,15 @@ ghost use Rattle.cells.specs.Views.{Fits};
 
 use cells::row::TableRow;
 use guideline::view::View;
+use std::marker::PhantomData;
 
 #[derive(Drop)]
 pub struct KeyRows<'a, R: TableRow> {
     pub bytes: &'a [u8],
     pub view: View,
     pub key: u32,
-    // Empty: it says whose rows these are.
-    pub of: &'a [R],
+    // It takes no bytes, and says whose rows these are.
+    pub of: PhantomData<R>,
     ghost fits: { Fits R.WIDTH view (length bytes.now) },
 }
 
@@ -37,7 +38,7 @@ impl<'a, R: TableRow> KeyRows<'a, R> {
             bytes: self.bytes,
             view,
             key: self.key,
-            of: &[],
+            of: PhantomData,
         }
     }
 }
