@@ -5,14 +5,13 @@ use crate::find::find;
 use crate::rows::KeyRows;
 use crate::seen::Seen;
 use cells::row::TableRow;
-use std::marker::PhantomData;
 
 #[derive(Drop)]
 pub struct Lent<'a, R: TableRow> {
     pub bytes: &'a [u8],
     pub seen: Seen,
-    // It takes no bytes, and says whose rows these are.
-    pub of: PhantomData<R>,
+    // None: it takes no bytes, and says whose rows these are. No PhantomData, which would name std.
+    pub of: [&'a R; 0],
     ghost sees: { SeesBy R.WIDTH R.KEY bytes.now seen },
 }
 
@@ -30,7 +29,7 @@ impl<'a, R: TableRow> Lent<'a, R> {
         Lent {
             bytes,
             seen,
-            of: PhantomData,
+            of: [],
         }
     }
 
@@ -47,7 +46,7 @@ impl<'a, R: TableRow> Lent<'a, R> {
             bytes: self.bytes,
             view,
             key,
-            of: PhantomData,
+            of: [],
         }
     }
 }

@@ -4,15 +4,14 @@ ghost use Rattle.cells.specs.Views.{Fits};
 
 use cells::row::TableRow;
 use guideline::view::View;
-use std::marker::PhantomData;
 
 #[derive(Drop)]
 pub struct KeyRows<'a, R: TableRow> {
     pub bytes: &'a [u8],
     pub view: View,
     pub key: u32,
-    // It takes no bytes, and says whose rows these are.
-    pub of: PhantomData<R>,
+    // None: it takes no bytes, and says whose rows these are. No PhantomData, which would name std.
+    pub of: [&'a R; 0],
     ghost fits: { Fits R.WIDTH view (length bytes.now) },
 }
 
@@ -38,7 +37,7 @@ impl<'a, R: TableRow> KeyRows<'a, R> {
             bytes: self.bytes,
             view,
             key: self.key,
-            of: PhantomData,
+            of: [],
         }
     }
 }
