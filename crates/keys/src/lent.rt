@@ -10,8 +10,8 @@ use cells::row::TableRow;
 pub struct Lent<'a, R: TableRow> {
     pub bytes: &'a [u8],
     pub seen: Seen,
-    // Empty: it says whose rows these are.
-    pub of: &'a [R],
+    // None: it takes no bytes, and says whose rows these are. No PhantomData, which would name std.
+    pub of: [&'a R; 0],
     ghost sees: { SeesBy R.WIDTH R.KEY bytes.now seen },
 }
 
@@ -29,7 +29,7 @@ impl<'a, R: TableRow> Lent<'a, R> {
         Lent {
             bytes,
             seen,
-            of: &[],
+            of: [],
         }
     }
 
@@ -46,7 +46,7 @@ impl<'a, R: TableRow> Lent<'a, R> {
             bytes: self.bytes,
             view,
             key,
-            of: &[],
+            of: [],
         }
     }
 }

@@ -10,8 +10,8 @@ pub struct KeyRows<'a, R: TableRow> {
     pub bytes: &'a [u8],
     pub view: View,
     pub key: u32,
-    // Empty: it says whose rows these are.
-    pub of: &'a [R],
+    // None: it takes no bytes, and says whose rows these are. No PhantomData, which would name std.
+    pub of: [&'a R; 0],
     ghost fits: { Fits R.WIDTH view (length bytes.now) },
 }
 
@@ -37,7 +37,7 @@ impl<'a, R: TableRow> KeyRows<'a, R> {
             bytes: self.bytes,
             view,
             key: self.key,
-            of: &[],
+            of: [],
         }
     }
 }

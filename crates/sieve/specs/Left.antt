@@ -5,7 +5,9 @@ use Rattle.guideline.specs.declared.rows.TableName.TheVariants.{T643}
 use Rattle.guideline.specs.declared.view.View.{View}
 use Rattle.guideline.specs.Table.{Table, among}
 use Rattle.guideline.specs.Rows.{keyed}
+use Rattle.cells.specs.declared.row.TableRow.{Ghosts}
 use Rattle.cells.specs.Lents.{shown, row_at}
+use Rattle.keys.specs.declared.rows.KeyRows.{KeyRows}
 use Rattle.sieve.specs.declared.left.Left.{Left}
 use Rattle.sieve.specs.declared.settled.Settled.{Settled}
 use Rattle.sieve.specs.Settled.{settled643}
@@ -14,6 +16,9 @@ use Rattle.sieve.specs.Settled.{settled643}
 unfoldable pub kept_in : List ℕ → View → ℕ → Settled → Table Row643
 kept_in l v category s = among (settled643 s) (among (keyed T643 category) (shown T643 l v))
 
+abbrev pub kept_of : {R : Ghosts Row643} → KeyRows Row643 R → Settled → Table Row643
+kept_of r s = kept_in r.bytes.now r.view r.key s
+
 abbrev pub kept : Left → Table Row643
 kept s = kept_in s.rows.bytes.now s.rows.view s.rows.key s.settled
 
@@ -21,6 +26,9 @@ kept s = kept_in s.rows.bytes.now s.rows.view s.rows.key s.settled
 abbrev pub passing_in : List ℕ → View → ℕ → Settled → (Row643 → Bool) → ℕ → Bool
 passing_in l v category s p i =
     keyed T643 category (row_at T643 l v i) && (settled643 s (row_at T643 l v i) && p (row_at T643 l v i))
+
+abbrev pub passing_of : {R : Ghosts Row643} → KeyRows Row643 R → Settled → (Row643 → Bool) → ℕ → Bool
+passing_of r s p = passing_in r.bytes.now r.view r.key s p
 
 abbrev pub passing : Left → (Row643 → Bool) → ℕ → Bool
 passing s p = passing_in s.rows.bytes.now s.rows.view s.rows.key s.settled p
