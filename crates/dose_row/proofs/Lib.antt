@@ -1,2 +1,3 @@
 pub mod Narrowed
 pub mod Links
+pub mod Whole

@@ -19,14 +19,14 @@ use sieve::left::Left;
 
 // Where no row has the frequency. "None: 115 if some row has the unit or its twin, else 116 if some row has the count, else 117." P4 may suppress it.
 fn no_frequency(
-    left: Left<'_>,
+    left: &Left<'_>,
     t649: &Lent<'_, Row649>,
     p: Prescription,
     d: Data,
     c: Context,
 ) -> Refusal
-    requires { Amounts c.ratio × Tested p (lent_rows t649.now) × (left.settled.frequency ≡ Every) × (left.settled.weight ≡ Blank) × (left.settled.surface ≡ Blank) }
-    ensures { run (datum d) (no_frequency (lent_rows t649.now) p c (kept left.entry)) ≡ Refused result tt }
+    requires { Amounts c.ratio × Tested p (lent_rows t649.now) × (left.now.settled.frequency ≡ Every) × (left.now.settled.weight ≡ Blank) × (left.now.settled.surface ≡ Blank) }
+    ensures { run (datum d) (no_frequency (lent_rows t649.now) p c (kept left.now)) ≡ Refused result tt }
 {
     let signal = left.signal(p);
     match quiet::suppresses(left, t649, p, d, c) {
@@ -36,21 +36,20 @@ fn no_frequency(
     }
 }
 
-pub fn by_frequency<'a>(
-    left: Left<'a>,
+pub fn by_frequency(
+    left: &mut Left<'_>,
     t649: &Lent<'_, Row649>,
     p: Prescription,
     d: Data,
     c: Context,
-) -> Result<Left<'a>, Refusal>
-    requires { Amounts c.ratio × Tested p (lent_rows t649.now) × (left.settled.frequency ≡ Every) × (left.settled.weight ≡ Blank) × (left.settled.surface ≡ Blank) }
-    ensures { Leaves (datum d) (by_frequency (lent_rows t649.now) p c (kept left.entry)) (λ s. (s.weight ≡ Blank) × (s.surface ≡ Blank)) result }
+) -> Result<(), Refusal>
+    requires { Amounts c.ratio × Tested p (lent_rows t649.now) × (left.old.settled.frequency ≡ Every) × (left.old.settled.weight ≡ Blank) × (left.old.settled.surface ≡ Blank) }
+    ensures { Leaves (datum d) (by_frequency (lent_rows t649.now) p c (kept left.old)) (λ s. (s.weight ≡ Blank) × (s.surface ≡ Blank)) left.new result }
 {
     let Some((i, filter)) = left.search(filter::entered(p)) else {
         return Err(no_frequency(left, t649, p, d, c));
     };
-    Ok(Left {
-        rows: left.rows.rest(i),
-        settled: left.settled.by_frequency(filter),
-    })
+    left.rows = left.rows.rest(i);
+    left.settled = left.settled.by_frequency(filter);
+    Ok(())
 }

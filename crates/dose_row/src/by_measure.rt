@@ -13,20 +13,21 @@ use filter::{Filter, Measure};
 use guideline::refusals::{Ending, Question, Refusal};
 use sieve::left::Left;
 
-pub fn by_measure<'a>(
-    left: Left<'a>,
+pub fn by_measure(
+    left: &mut Left<'_>,
     m: Measure,
     question: Question,
     none: Ending,
     value: Option<u32>,
-) -> Result<Left<'a>, Refusal>
-    requires { own_value m left.settled ≡ Blank }
-    ensures { Where question value (λ d. Leaves d (by_measure question none (measure_bounds m) (kept left.entry)) (λ s. other_value m s ≡ other_value m left.entry.settled) result) }
+) -> Result<(), Refusal>
+    requires { own_value m left.old.settled ≡ Blank }
+    ensures { Where question value (λ d. Leaves d (by_measure question none (measure_bounds m) (kept left.old)) (λ s. other_value m s ≡ other_value m left.old.settled) left.new result) }
 {
     let Some(x) = left.needed(m, question, value)? else {
-        return Ok(left);
+        return Ok(());
     };
-    let rows = narrow(&left, Filter::FitsMeasure(m, x), none)?;
+    narrow(left, Filter::FitsMeasure(m, x), none)?;
     let settled = left.settled.by_measure(m, x);
-    Ok(Left { rows, settled })
+    left.settled = settled;
+    Ok(())
 }

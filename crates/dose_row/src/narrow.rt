@@ -3,19 +3,14 @@ ghost use Rattle.dose_row.specs.Steps.{Narrows};
 
 use filter::Filter;
 use guideline::refusals::{Ending, Refusal};
-use guideline::rows::Row643;
-use keys::rows::KeyRows;
 use sieve::left::Left;
 
-pub fn narrow<'a>(
-    left: &Left<'a>,
-    filter: Filter,
-    none: Ending,
-) -> Result<KeyRows<'a, Row643>, Refusal>
-    ensures { Narrows left.now filter none result }
+pub fn narrow(left: &mut Left<'_>, filter: Filter, none: Ending) -> Result<(), Refusal>
+    ensures { Narrows left.old filter none left.new result }
 {
     let Some(i) = left.first(filter) else {
         return Err(Refusal::Ends(none));
     };
-    Ok(left.rows.rest(i))
+    left.rows = left.rows.rest(i);
+    Ok(())
 }

@@ -7,8 +7,8 @@ use guideline::refusals::{Ending, Refusal};
 use guideline::rows::Row643;
 use sieve::left::Left;
 
-pub fn one_row(left: Left<'_>) -> Result<Row643, Refusal>
-    ensures { Chooses (one_row (kept left.entry)) result }
+pub fn one_row(left: &Left<'_>) -> Result<Row643, Refusal>
+    ensures { Chooses (one_row (kept left.now)) result }
 {
     let settled = left.settled;
     tables::ask(&left.rows, |r: Row643| settled.passes(r)).one(

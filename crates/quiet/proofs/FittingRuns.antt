@@ -27,52 +27,53 @@ use Rattle.sieve.proofs.Kept.{joined_kept}
 use Rattle.sieve.proofs.Needing.{on_need, run_needed}
 use Rattle.quiet.specs.Fitted.{fitted}
 
--- the rows stay, and what is settled of the other measure
-pub other_fitted : (s : Left) (m : Measure) (n : Result Value Question) {w : Left} → fitted s m n ≡ Ok w → other_value m w.settled ≡ other_value m s.settled
+-- what is settled of the other measure stays
+pub other_fitted : (s : Settled) (m : Measure) (n : Result Value Question) {w : Settled} → fitted s m n ≡ Ok w → other_value m w ≡ other_value m s
 other_fitted s m (Ok Blank) {w} e = let same : s ≡ w = cc in rw (sym same)
 other_fitted s m (Ok (Given x)) {w} e =
-    let same : ◌≡◌ {A = Left} (record { rows = s.rows; settled = and_measure s.settled m x }) w = cc in rw (sym same) (other_stays m s.settled x)
+    let same : and_measure s m x ≡ w = cc in rw (sym same) (other_stays m s x)
 other_fitted s m (Err q) e = absurd (let z : ◌≡◌ {A = ℕ} 0 1 = cc in omega arith)
 
+-- the same rows, by what is settled
+abbrev pub by : Left → Settled → Left
+by s w = record { rows = s.rows; settled = w }
+
 -- the rows that are left, or the question
-abbrev pub left : Result Left Question → Outcome (Unit {0}) (Table Row643)
-left (Ok s) = Chosen (kept s)
-left (Err question) = Refused (Asks question) tt
+abbrev pub left : Left → Result Settled Question → Outcome (Unit {0}) (Table Row643)
+left s (Ok w) = Chosen (kept (by s w))
+left s (Err question) = Refused (Asks question) tt
 
-module _ (d : Datum → Value) (s : Left) (m : Measure) (question : Question) where
+module _ (d : Datum → Value) (s : Left) (w : Settled) (m : Measure) (question : Question) where
   abbrev that_fit : ℕ → Table Row643
-  that_fit x = among (λ r. fits (measure_bounds m r) x) (kept s)
+  that_fit x = among (λ r. fits (measure_bounds m r) x) (kept (by s w))
 
-  by_need : own_value m s.settled ≡ Blank → (n : Result Value Question) → on_need d question (kept s) (λ x. Done (that_fit x)) n ≡ left (fitted s m n)
+  by_need : own_value m w ≡ Blank → (n : Result Value Question) → on_need d question (kept (by s w)) (λ x. Done (that_fit x)) n ≡ left s (fitted w m n)
   by_need e (Ok Blank) = refl
   by_need e (Ok (Given x)) =
-      ap Chosen (sym (joined_kept s (and_measure s.settled m x) (FitsMeasure m x) (measure_joins m s.settled x e)))
+      ap Chosen (sym (joined_kept (by s w) (and_measure w m x) (FitsMeasure m x) (measure_joins m w x e)))
   by_need e (Err q) = refl
 
-  pub run_fitting : {x : Value} {n : Result Left Question} → own_value m s.settled ≡ Blank → d (asks_for question) ≡ x → n ≡ fitted s m (needed question (some (kept s (filter643 (Matters m)))) x) → run d (fitting question (measure_bounds m) (kept s)) ≡ left n
+  pub run_fitting : {x : Value} {n : Result Settled Question} → own_value m w ≡ Blank → d (asks_for question) ≡ x → n ≡ fitted w m (needed question (some (kept (by s w) (filter643 (Matters m)))) x) → run d (fitting question (measure_bounds m) (kept (by s w))) ≡ left s n
   unfolding fitting
   run_fitting {x} e asked h =
-      run_needed d question (kept s) (λ x. Done (that_fit x)) (some (kept s (filter643 (Matters m)))) x asked
-      ∙ by_need e (needed question (some (kept s (filter643 (Matters m)))) x)
-      ∙ ap left (sym h)
+      run_needed d question (kept (by s w)) (λ x. Done (that_fit x)) (some (kept (by s w) (filter643 (Matters m)))) x asked
+      ∙ by_need e (needed question (some (kept (by s w) (filter643 (Matters m)))) x)
+      ∙ ap (left s) (sym h)
 
 -- the two steps of 3.4.2.1, over the rows per day
 module _ (d : Datum → Value) (s : Left) {f : Settled} (e : f ≡ and_frequency s.settled PerDay) where
-  abbrev pub per_day : Left
-  per_day = record { rows = s.rows; settled = f }
-
-  per_day_kept : s.settled.frequency ≡ Every → kept per_day ≡ among of_day (kept s)
+  per_day_kept : s.settled.frequency ≡ Every → kept (by s f) ≡ among of_day (kept s)
   per_day_kept none =
       ap (kept_in s.rows.bytes.now s.rows.view s.rows.key) e
       ∙ joined_kept s (and_frequency s.settled PerDay) PerDay (λ r. frequency_joins s.settled r PerDay none)
 
-  pub run_weight : {n : Result Left Question} → s.settled.frequency ≡ Every → s.settled.weight ≡ Blank → n ≡ fitted per_day Weight (needed WeightPerDay (some (kept per_day (filter643 (Matters Weight)))) (d (asks_for WeightPerDay))) → run d (fitting_weight (among of_day (kept s))) ≡ left n
+  pub run_weight : {n : Result Settled Question} → s.settled.frequency ≡ Every → s.settled.weight ≡ Blank → n ≡ fitted f Weight (needed WeightPerDay (some (kept (by s f) (filter643 (Matters Weight)))) (d (asks_for WeightPerDay))) → run d (fitting_weight (among of_day (kept s))) ≡ left s n
   unfolding fitting_weight
   run_weight none blank h =
       ap (λ (t : Table Row643). run d (fitting_weight t)) (sym (per_day_kept none))
-      ∙ run_fitting d per_day Weight WeightPerDay (ap (λ (w : Settled). w.weight) e ∙ blank) refl h
+      ∙ run_fitting d s f Weight WeightPerDay (ap (λ (w : Settled). w.weight) e ∙ blank) refl h
 
-  pub run_surface : (m : Result Value Question) {w : Left} {n : Result Left Question} → s.settled.surface ≡ Blank → Ok w ≡ fitted per_day Weight m → n ≡ fitted w Surface (needed SurfacePerDay (some (kept w (filter643 (Matters Surface)))) (d (asks_for SurfacePerDay))) → run d (fitting_surface (kept w)) ≡ left n
+  pub run_surface : (m : Result Value Question) {w : Settled} {n : Result Settled Question} → s.settled.surface ≡ Blank → Ok w ≡ fitted f Weight m → n ≡ fitted w Surface (needed SurfacePerDay (some (kept (by s w) (filter643 (Matters Surface)))) (d (asks_for SurfacePerDay))) → run d (fitting_surface (kept (by s w))) ≡ left s n
   unfolding fitting_surface
   run_surface m {w} blank before h =
-      run_fitting d w Surface SurfacePerDay (other_fitted per_day Weight m (sym before) ∙ ap (λ (w : Settled). w.surface) e ∙ blank) refl h
+      run_fitting d s w Surface SurfacePerDay (other_fitted f Weight m (sym before) ∙ ap (λ (w : Settled). w.surface) e ∙ blank) refl h

@@ -3,27 +3,27 @@ ghost use Rattle.std.specs.Prelude.{◌≡◌};
 ghost use Rattle.guideline.specs.Table.{some};
 ghost use Rattle.filter.specs.Filters.{filter643};
 ghost use Rattle.filter.specs.declared.Filter.TheVariants.{Matters};
-ghost use Rattle.sieve.specs.Left.{kept};
+ghost use Rattle.sieve.specs.Left.{kept_of};
 ghost use Rattle.sieve.specs.Needed.{needed};
 ghost use Rattle.quiet.specs.Fitted.{fitted};
 
 use filter::Measure;
 use guideline::refusals::Question;
-use sieve::left::Left;
+use guideline::rows::Row643;
+use keys::rows::KeyRows;
+use sieve::settled::Settled;
 
-pub fn fitting<'a>(
-    left: Left<'a>,
+pub fn fitting(
+    rows: &KeyRows<'_, Row643>,
+    settled: Settled,
     m: Measure,
     question: Question,
     value: Option<u32>,
-) -> Result<Left<'a>, Question>
-    ensures { result ≡ fitted left.entry m (needed question (some (kept left.entry (filter643 (Matters m)))) value) }
+) -> Result<Settled, Question>
+    ensures { result ≡ fitted settled m (needed question (some (kept_of rows.now settled (filter643 (Matters m)))) value) }
 {
-    match left.needed(m, question, value)? {
-        None => Ok(left),
-        Some(x) => Ok(Left {
-            settled: left.settled.by_measure(m, x),
-            ..left
-        }),
+    match settled.needed(rows, m, question, value)? {
+        None => Ok(settled),
+        Some(x) => Ok(settled.by_measure(m, x)),
     }
 }

@@ -41,23 +41,33 @@ fn may_suppress(p: Prescription, c: Context) -> bool
 
 // Is the signal suppressed, where no row that passed the age has the frequency? Or a weight or a surface is asked for.
 pub fn suppresses(
-    left: Left<'_>,
+    left: &Left<'_>,
     t649: &Lent<'_, Row649>,
     p: Prescription,
     d: Data,
     c: Context,
 ) -> Result<bool, Question>
-    requires { Amounts c.ratio × Tested p (lent_rows t649.now) × (left.settled.frequency ≡ Every) × (left.settled.weight ≡ Blank) × (left.settled.surface ≡ Blank) }
-    ensures { run (datum d) (suppresses (lent_rows t649.now) p c (kept left.entry)) ≡ outcome result }
+    requires { Amounts c.ratio × Tested p (lent_rows t649.now) × (left.now.settled.frequency ≡ Every) × (left.now.settled.weight ≡ Blank) × (left.now.settled.surface ≡ Blank) }
+    ensures { run (datum d) (suppresses (lent_rows t649.now) p c (kept left.now)) ≡ outcome result }
 {
     if !may_suppress(p, c) {
         return Ok(false);
     }
-    let per_day = Left {
-        settled: left.settled.by_frequency(Filter::PerDay),
-        ..left
-    };
-    let heavy = fitting(per_day, Measure::Weight, Question::WeightPerDay, d.weight)?;
-    let large = fitting(heavy, Measure::Surface, Question::SurfacePerDay, d.surface)?;
-    Ok(lower(large, t649, p, c.ratio))
+    let rows = &left.rows;
+    let per_day = left.settled.by_frequency(Filter::PerDay);
+    let heavy = fitting(
+        rows,
+        per_day,
+        Measure::Weight,
+        Question::WeightPerDay,
+        d.weight,
+    )?;
+    let large = fitting(
+        rows,
+        heavy,
+        Measure::Surface,
+        Question::SurfacePerDay,
+        d.surface,
+    )?;
+    Ok(lower(rows, large, t649, p, c.ratio))
 }

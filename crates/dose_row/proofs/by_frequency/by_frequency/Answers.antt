@@ -17,16 +17,16 @@ pub returns-in_default : goal.returns-in_default
 returns-in_default c =
     let a = c.args in
     let m = rw c.entered.ensures at c.in_default.ensures in
-    frequency_none (lent_rows a.t649.now) a.p a.c (kept a.left) (datum a.d) m.0 m.1 ∙ c.no_frequency.ensures
+    frequency_none (lent_rows a.t649.now) a.p a.c (kept a.left.now) (datum a.d) m.0 m.1 ∙ c.no_frequency.ensures
 
 pub returns : goal.returns
 returns c =
     let a = c.args in
-    let s = a.left.settled in
+    let s = a.left.now.settled in
     let q = c.in-Some.filter in
     let m = rw c.entered.ensures at c.in-Some.ensures in
-    let hit = first_tells a.left (filter643 q) (Some c.in-Some.i) m.1 in
-    let found = frequency_found (lent_rows a.t649.now) a.p a.c (kept a.left) (datum a.d) q m.0 hit in
-    let settled = c.by_frequency.ensures in
-    let left = narrowed_kept a.left (and_frequency s q) q (λ r. frequency_joins s r q c.requires.2) (record { rows = c.rest.result; settled = c.by_frequency.result }) m.1 c.rest.ensures.0 c.rest.ensures.1 c.rest.ensures.2 settled in
+    let hit = first_tells a.left.now (filter643 q) (Some c.in-Some.i) m.1 in
+    let found = frequency_found (lent_rows a.t649.now) a.p a.c (kept a.left.now) (datum a.d) q m.0 hit in
+    let settled = c.by_frequency-left.ensures in
+    let left = narrowed_kept a.left.now (and_frequency s q) q (λ r. frequency_joins s r q c.requires.2) (record { rows = c.rest-left.result; settled = c.by_frequency-left.result }) m.1 c.rest-left.ensures.0 c.rest-left.ensures.1 c.rest-left.ensures.2 settled in
     ((ap (λ (w : Settled). w.weight) settled ∙ c.requires.3, ap (λ (w : Settled). w.surface) settled ∙ c.requires.4), found ∙ ap Chosen (sym left))

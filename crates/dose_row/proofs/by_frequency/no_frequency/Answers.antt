@@ -15,17 +15,17 @@ use Rattle.dose_row.proofs.by_frequency.no_frequency.Goals as goal
 pub returns-in-Ok-true : goal.returns-in-Ok-true
 returns-in-Ok-true c =
     let a = c.args in
-    signal_suppressed (lent_rows a.t649.now) a.p a.c (kept a.left) (datum a.d) (c.suppresses.ensures ∙ ap outcome c.in-Ok-true.is ∙ ap Chosen c.in-Ok-true.field-0-test)
+    signal_suppressed (lent_rows a.t649.now) a.p a.c (kept a.left.now) (datum a.d) (c.suppresses.ensures ∙ ap outcome c.in-Ok-true.is ∙ ap Chosen c.in-Ok-true.field-0-test)
     ∙ ap (λ (s : Signal). Refused (Ends (Suppressed s)) tt) (sym c.signal-signal.ensures)
 
 pub returns-in-Ok-false : goal.returns-in-Ok-false
 returns-in-Ok-false c =
     let a = c.args in
-    signal_stands (lent_rows a.t649.now) a.p a.c (kept a.left) (datum a.d) (c.suppresses.ensures ∙ ap outcome c.in-Ok-false.is ∙ ap Chosen c.in-Ok-false.field-0-test)
+    signal_stands (lent_rows a.t649.now) a.p a.c (kept a.left.now) (datum a.d) (c.suppresses.ensures ∙ ap outcome c.in-Ok-false.is ∙ ap Chosen c.in-Ok-false.field-0-test)
     ∙ ap (λ (s : Signal). Refused (Ends (NoFrequency s)) tt) (sym c.signal-signal.ensures)
 
 pub returns-in-Err : goal.returns-in-Err
 returns-in-Err c =
     let a = c.args in
-    signal_asked (lent_rows a.t649.now) a.p a.c (kept a.left) (datum a.d) (c.suppresses.ensures ∙ ap outcome c.in-Err.is)
+    signal_asked (lent_rows a.t649.now) a.p a.c (kept a.left.now) (datum a.d) (c.suppresses.ensures ∙ ap outcome c.in-Err.is)
     ∙ ap (λ (r : Refusal). Refused r tt) (sym c.from.ensures)

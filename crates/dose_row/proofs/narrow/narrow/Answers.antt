@@ -13,5 +13,6 @@ pub returns : goal.returns
 returns c =
     let a = c.args in (
       first_tells a.left.now (filter643 a.filter) (Some c.in-Some.i) c.in-Some.ensures,
-      λ w joins. narrowed_kept a.left.now w a.filter joins (record { rows = c.rest.result; settled = w }) c.in-Some.ensures c.rest.ensures.0 c.rest.ensures.1 c.rest.ensures.2 refl,
+      refl,
+      λ w joins. narrowed_kept a.left.now w a.filter joins (record { rows = c.rest-left.result; settled = w }) c.in-Some.ensures c.rest-left.ensures.0 c.rest-left.ensures.1 c.rest-left.ensures.2 refl,
     )

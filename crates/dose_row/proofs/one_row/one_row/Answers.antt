@@ -17,8 +17,8 @@ use Rattle.dose_row.proofs.one_row.one_row.Goals as goal
 pub returns : goal.returns
 unfolding one_row kept_in
 returns c =
-    let rows = c.args.left.rows in
-    let p = settled643 c.args.left.settled in
+    let rows = c.args.left.now.rows in
+    let p = settled643 c.args.left.now.settled in
     λ d.
     c.one.ensures (key_rows rows p) (c.ask.ensures p (λ row b post. search rules)) d
     ∙ ap (λ (h : Hits Row643). answered (run d (one h RowsSeveral RowsSeveral))) (ap (key_rows rows) (fun_ext (λ r. sym (and-true (p r)))))
