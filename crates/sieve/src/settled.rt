@@ -63,6 +63,7 @@ impl Settled {
     }
 
     // All rows pass where nothing is settled yet.
+    #[inline(always)]
     pub fn passes(self, r: Row643) -> bool
         ensures { result ≡ settled643 self r }
     {
