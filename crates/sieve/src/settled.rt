@@ -62,7 +62,7 @@ impl Settled {
         }
     }
 
-    // All rows pass where nothing is settled yet.
+    // All rows pass where nothing is settled yet. A part of what calls it: it is run for each row of a category.
     #[inline(always)]
     pub fn passes(self, r: Row643) -> bool
         ensures { result ≡ settled643 self r }

@@ -47,8 +47,7 @@ returns-in_err-by_age c =
 pub by_frequency-requires : goal.by_frequency-requires
 by_frequency-requires c =
     let aged = c.in_ok-by_age.ensures (datum c.args.d) in
-    let nothing = ap (λ (s : Settled). and_age s c.args.c.age) c.nothing.ensures in
-    (
+    let nothing = ap (λ (s : Settled). and_age s c.args.c.age) c.nothing.ensures in (
       c.requires.0,
       c.requires.1,
       ap (λ (s : Settled). s.frequency) (aged.0 ∙ nothing),
