@@ -1,1 +1,2 @@
 pub mod Lining
+pub mod Parts

@@ -18,3 +18,4 @@ pub mod Bounds
 pub mod Files
 pub mod EveryFile
 pub mod OneResult
+pub mod Filled

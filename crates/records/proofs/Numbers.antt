@@ -80,6 +80,9 @@ module _ (l : List ℕ) (n : ℕ) (e : field_of l ≡ Ok n) where
   unfolding field_of
   field_said = (field_split (digits_only l) (horner 0 l) n e).1
 
+  pub field_below : (k : ℕ) → length l ≡ k → n < 10 ^ k
+  field_below k h = rw (← field_said, ← h) (said_below l field_digits)
+
 -- and one that was refused
 module _ (l : List ℕ) (e : ReadRefusal) (h : field_of l ≡ Err e) where
   pub field_none : digits_only l ≡ false

@@ -25,6 +25,10 @@ module _ {R : Type 0} (ps : List Part) (g : Values ps → R) (s : List ℕ) wher
   other_text l f = rw (eq-eqb (length s) (total ps) l, f)
 
   module _ (l : length s ≡ total ps) (f : every fixed_part ps 0 s ≡ true) where
+    pub by_numbers : read_by g (numbers ps s) ≡ read_by g (scan ps s)
+    unfolding scan
+    by_numbers = rw (eq-eqb (length s) (total ps) l, f)
+
     pub no_digits : every digit_part ps 0 s ≡ false → refused 203 ≡ read_by g (scan ps s)
     unfolding scan numbers
     no_digits d = rw (eq-eqb (length s) (total ps) l, f, d)

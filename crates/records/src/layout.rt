@@ -19,7 +19,9 @@ pub struct Layout<const N: usize> {
     ghost whole: { total (parts_of parts.now) < 2 ^ 64 },
 }
 
+// Each of these is laid out where a file calls it: the parts are constants there, and the loops over them are gone from the program.
 impl<const N: usize> Layout<N> {
+    #[inline(always)]
     pub fn read(&self, s: &[u8]) -> Result<[u64; N], ReadRefusal>
         ensures numbers { says result ≡ read_by (to_numbers (parts_of self.now.parts.now)) (scan (parts_of self.now.parts.now) s.now) }
         ensures fit { IfOk result (λ n. Within (parts_of self.now.parts.now) (from_numbers (parts_of self.now.parts.now) 0 n)) }
@@ -38,6 +40,7 @@ impl<const N: usize> Layout<N> {
         Ok(numbers)
     }
 
+    #[inline(always)]
     pub fn write(&self, numbers: &[u64; N], buf: &mut [u8], at: usize) -> Result<(), WriteRefusal>
         ensures answer { write_number result ≡ answer (parts_of self.now.parts.now) (from_numbers (parts_of self.now.parts.now) 0 numbers.now) at (length buf.old) }
         ensures bytes { buf.new ≡ leaving (parts_of self.now.parts.now) (from_numbers (parts_of self.now.parts.now) 0 numbers.now) at buf.old }
@@ -52,6 +55,7 @@ impl<const N: usize> Layout<N> {
         Ok(())
     }
 
+    #[inline(always)]
     fn total(&self) -> usize
         ensures { result ≡ total (parts_of self.now.parts.now) }
     {
@@ -62,6 +66,7 @@ impl<const N: usize> Layout<N> {
         width
     }
 
+    #[inline(always)]
     fn is_fixed(&self, s: &[u8]) -> bool
         requires { total (parts_of self.now.parts.now) ≤ length s.now }
         ensures { result ≡ every fixed_part (parts_of self.now.parts.now) 0 s.now }
@@ -76,6 +81,7 @@ impl<const N: usize> Layout<N> {
         true
     }
 
+    #[inline(always)]
     fn numbers(&self, s: &[u8]) -> Result<[u64; N], ReadRefusal>
         requires { total (parts_of self.now.parts.now) ≤ length s.now }
         ensures { says result ≡ unless (every digit_part (parts_of self.now.parts.now) 0 s.now) (refused 203) (said (to_numbers (parts_of self.now.parts.now) (values (parts_of self.now.parts.now) 0 s.now))) }
@@ -89,6 +95,7 @@ impl<const N: usize> Layout<N> {
         Ok(numbers)
     }
 
+    #[inline(always)]
     fn fits(&self, numbers: &[u64; N]) -> bool
         ensures { result ≡ fits (parts_of self.now.parts.now) (from_numbers (parts_of self.now.parts.now) 0 numbers.now) }
     {
@@ -100,6 +107,7 @@ impl<const N: usize> Layout<N> {
         true
     }
 
+    #[inline(always)]
     fn put(&self, numbers: &[u64; N], buf: &mut [u8], place: usize)
         requires { place + total (parts_of self.now.parts.now) ≤ length buf.old }
         ensures { buf.new ≡ sets buf.old place (spell (parts_of self.now.parts.now) (from_numbers (parts_of self.now.parts.now) 0 numbers.now)) }

@@ -39,6 +39,10 @@ ends_complete {last} {m} {old} {new} {n} e p =
       nothing = λ f. cc;
     }
 
+-- the input has not ended: no machine is at its end
+pub ends_more : {last : Option ListMachine} {new : List ℕ} → ((m : ListMachine) → last ≡ Some m → ⊥) → Ends last new 0
+ends_more h = record { inside = omega arith; complete = λ m f. absurd (h m f); nothing = λ f. refl }
+
 -- no end was found, since there is more or reading failed
 pub ends_failed : {last : Option ListMachine} {new : List ℕ} → last ≡ None → Ends last new 0
 ends_failed e = record { inside = omega arith; complete = λ m f. cc; nothing = λ f. refl }
