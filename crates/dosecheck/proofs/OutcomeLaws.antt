@@ -1,6 +1,6 @@
 -- What each step of the check says of its outcome: a step that refuses ends it, one that has chosen hands on. Assumes nothing.
 use mathlib.Core.Path.{◌≡◌, refl, sym, ◌∙◌, ap}
-use mathlib.Core.Bool.{Bool, true, false, cond}
+use mathlib.Core.Bool.{Bool, true, false}
 use Rattle.std.specs.Prelude.{Result, Ok, Err}
 use Rattle.guideline.specs.Types.{Value}
 use Rattle.guideline.specs.declared.answer.Reached.{Reached}
@@ -22,7 +22,7 @@ use Rattle.guideline.specs.Filling.{filling}
 use Rattle.guideline.specs.Results.{stopped_at, ended}
 use Rattle.guideline.specs.Steps.{nothing, sound, selection, before_step_2}
 use Rattle.guideline.specs.Check.{up_to_step_2, from_step_2, outcome, answer}
-use Rattle.guideline.proofs.Run.{run_bind, run_at, where_reached, step_refused, step_chosen}
+use Rattle.guideline.proofs.Run.{run_bind, run_at, step_refused, step_chosen}
 use Rattle.keys.specs.declared.tables.SeenTables.{SeenTables}
 use Rattle.keys.specs.Tables.{bytes_of, rule_bytes}
 use Rattle.dosecheck.specs.Lines.{answer_to}

@@ -1,5 +1,4 @@
 -- A step that refuses ends the check; what was chosen goes on to the next, in range as the entry is. Assumes nothing.
-use Prim.Native.Nat.{ℕ}
 use mathlib.Core.Bool.{true}
 use mathlib.Core.Path.{◌≡◌, sym, ◌∙◌, ap, subst}
 use Rattle.std.specs.Prelude.{Result, Ok, Err}
@@ -16,7 +15,7 @@ use Rattle.guideline.specs.declared.rows.Row649.{Row649}
 use Rattle.guideline.specs.declared.rows.TableName.TheVariants.{T649, T730, T070}
 use Rattle.guideline.specs.Ask.{Plan, run, no_data}
 use Rattle.guideline.specs.Bytes.{Lents, rows_of, seen, spelled}
-use Rattle.guideline.specs.Check.{from_step_2, outcome}
+use Rattle.guideline.specs.Check.{from_step_2}
 use Rattle.guideline.specs.Entries.{datum, in_range, prescription_in_range}
 use Rattle.guideline.specs.Filling.{filling}
 use Rattle.guideline.specs.Lent.{lent}

@@ -3,7 +3,7 @@ use mathlib.Core.Path.{◌∙◌, ap}
 use Rattle.guideline.specs.declared.view.View.{View}
 use Rattle.guideline.specs.Table.{among}
 use Rattle.cells.specs.Lents.{shown_by}
-use Rattle.std.proofs.Common.{◌≡◌, ◌+◌, ◌≤◌, arith}
+use Rattle.std.proofs.Common.{◌+◌, ◌≤◌, arith}
 use Rattle.cells.proofs.Views.{fits_less, rows_fit}
 use Rattle.keys.specs.declared.seen.Seen.{Seen}
 use Rattle.keys.proofs.Answers.{stretch_fits, stretch_among}
