@@ -30,16 +30,17 @@ fn put_width<const W: usize>(buf: &mut [u8], at: usize, n: u64)
     put_digits(&mut buf[at..at + W], 0, W, n);
 }
 
-// By the widths of the files; of any other width as well, only slower. A function of its own in the program, so that the loop over the parts stays short.
+// By the widths of the files, where the number has no more digits: then it is short as well, and so quick to divide. Any other is written too, only slower. A function of its own in
+// the program, so that the loop over the parts stays short.
 #[inline(never)]
 fn put_number(buf: &mut [u8], at: usize, width: usize, n: u64)
     requires { at + width ≤ length buf.old }
     ensures { buf.new ≡ sets buf.old at (digits width n) }
 {
     match width {
-        1 => put_width::<1>(buf, at, n),
-        6 => put_width::<6>(buf, at, n),
-        8 => put_width::<8>(buf, at, n),
+        1 if n < 10 => put_width::<1>(buf, at, n),
+        6 if n < 1_000_000 => put_width::<6>(buf, at, n),
+        8 if n < 100_000_000 => put_width::<8>(buf, at, n),
         12 => put_width::<12>(buf, at, n),
         _ => put_digits(buf, at, width, n),
     }
