@@ -21,6 +21,8 @@ fn ends(last: u8, c: u8) -> bool
 }
 
 // The place of the LF that ends the record. `before` is the character before the place from which it is looked for.
+// A function of its own in the program: as a part of `main` the pass over the characters takes 13 instructions for each where it takes 9.
+#[inline(never)]
 fn find_end(input: &[u8], from: usize, before: u8) -> Option<usize>
     requires { from ≤ length input.now }
     ensures { result ≡ end_from before input.now from }
